@@ -1,0 +1,5 @@
+pub mod Lives
+pub mod Studies
+pub mod Memory
+pub mod Sheets
+pub mod Archive
