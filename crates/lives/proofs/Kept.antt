@@ -29,7 +29,7 @@ pub record Entered (s : OpenStudy) (j : Result PlainLife Refused) (r : Result �
   pub refused : isOk r ≡ false → t ≡ s
   pub named : name (t .memory) ≡ name (s .memory)
 
-pub entered : (s t : OpenStudy) (j : Result PlainLife Refused) (l : Life) (r : Result ℕ Refusal) → Ok (plain-life l) ≡ j → Cases r (λ i. Put s l i t) (λ e. NotPut s e t) → Entered s j r t
+pub entered : (s t : OpenStudy) (j : Result PlainLife Refused) (l : Life) (r : Result ℕ Refusal) → Ok (plain-life l) ≡ j → Cases r (λ i. Put s (record { life = l; struck = false }) i t) (λ e. NotPut s e t) → Entered s j r t
 entered s t j l (Ok i) judged p =
     let m = now (s .memory) in
     let n = s .used in

@@ -2,3 +2,8 @@ mod Places
 mod Kept
 mod Turned
 mod Written
+mod Reading
+mod Decoded
+mod RoundTrip
+mod Loaded
+mod TakenOver

@@ -3,3 +3,5 @@ pub mod Studies
 pub mod Memory
 pub mod Sheets
 pub mod Archive
+pub mod Decode
+pub mod RoundTrip

@@ -5,7 +5,6 @@ use mathlib.Core.List.{List}
 use Prim.Native.Nat.{ℕ, min, _+_, _<_, _≤_}
 use lib.ListN.{getD, set, length}
 use denote.Ref.{now, name}
-use Rattle.lives.specs.declared.types.Life.{Life}
 use Rattle.lives.specs.declared.types.Place.{Place}
 use Rattle.units.specs.declared.refusals.Refusal.{Refusal}
 use Rattle.units.specs.declared.refusals.Refusal.the-variants.{NoPlaceLeft, NothingToStrike}
@@ -16,12 +15,12 @@ use Rattle.lives.specs.Studies.{most-places}
 abbrev pub room-in : List Place → ℕ
 room-in m = min most-places (length m)
 
--- t is s with the life l at its next place i
-pub record Put (s : OpenStudy) (l : Life) (i : ℕ) (t : OpenStudy) : Type 0 where
+-- t is s with p at its next place i
+pub record Put (s : OpenStudy) (p : Place) (i : ℕ) (t : OpenStudy) : Type 0 where
   pub next : i ≡ s .used
   pub free : s .used < room-in (now (s .memory))
   pub used : t .used ≡ s .used + 1
-  pub whole : now (t .memory) ≡ set (now (s .memory)) (s .used) (record { life = l; struck = false })
+  pub whole : now (t .memory) ≡ set (now (s .memory)) (s .used) p
   pub named : name (t .memory) ≡ name (s .memory)
 
 -- s has no place left, and t is s

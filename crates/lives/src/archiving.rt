@@ -2,9 +2,12 @@
 ghost use mathlib.Core.Path.{_≡_};
 ghost use mathlib.Core.List.{map};
 ghost use Prim.Native.Nat.{_≤_};
-ghost use lib.ListN.{length};
+ghost use lib.ListN.{length, take};
+ghost use Rattle.std.specs.Vec.{made};
+ghost use Rattle.std.specs.declared.result.Result.the-variants.{Ok};
 ghost use Rattle.units.specs.Refusals.{answer};
 ghost use Rattle.lives.specs.Archive.{place-words, status-mark, write-after, write-answer};
+ghost use Rattle.lives.specs.Decode.{decode};
 ghost use Rattle.lives.specs.Lives.{plain};
 ghost use Rattle.lives.specs.Studies.{sealed};
 use crate::studies::SealedStudy;
@@ -23,10 +26,11 @@ use crate::words::word;
 use units::Refusal;
 
 impl SealedStudy<'_> {
-    // Writes the archive into the front of the words, and answers its length.
+    // Writes the archive into the front of the words, and answers its length. What is written reads back.
     pub fn write(&self, words: &mut [u32]) -> Result<usize, Refusal>
         ensures answer { λ r. ⌜ answer r ≡ write-answer (sealed (now (self .entry)) .places) (now (words .entry)) ⌝ }
         ensures after { λ r. ⌜ now (words .exit) ≡ write-after (sealed (now (self .entry)) .places) (now (words .entry)) ⌝ }
+        ensures read { λ r. ⌜ made r (λ n. decode (take n (now (words .exit))) ≡ Ok (sealed (now (self .entry)) .places)) ⌝ }
     {
         write_places(&self.memory[0..self.used], words)
     }

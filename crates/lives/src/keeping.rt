@@ -11,12 +11,11 @@ ghost use Rattle.lives.specs.Memory.{Put, NotPut, Marked, NotMarked};
 ghost use Rattle.lives.specs.Studies.{enter-after, enter-answer, held, opened, sealed, strike-after, strike-answer};
 use crate::studies::OpenStudy;
 use crate::studies::SealedStudy;
-use crate::types::Life;
 use crate::types::Place;
 use crate::types::UncheckedLife;
 use units::Refusal;
 
-const MOST_PLACES: usize = 1024;
+pub(crate) const MOST_PLACES: usize = 1024;
 
 impl<'a> OpenStudy<'a> {
     // An empty study over life memory. It uses at most 1,024 places of it.
@@ -35,7 +34,7 @@ impl<'a> OpenStudy<'a> {
         ensures named { λ r. ⌜ name (now (self .exit) .memory) ≡ name (now (self .entry) .memory) ⌝ }
     {
         let life = unchecked.check()?;
-        self.put(life)
+        self.put(Place { life, struck: false })
     }
 
     // Strikes the life at a place: it keeps its place and counts in no fit.
@@ -57,20 +56,17 @@ impl<'a> OpenStudy<'a> {
         SealedStudy { memory, used }
     }
 
-    // The next place takes the life.
-    pub(crate) fn put(&mut self, life: Life) -> Result<usize, Refusal>
-        ensures { λ r. ⌜ Cases r (λ i. Put (now (self .entry)) life i (now (self .exit))) (λ e. NotPut (now (self .entry)) e (now (self .exit))) ⌝ }
+    // The next place of memory is used.
+    pub(crate) fn put(&mut self, place: Place) -> Result<usize, Refusal>
+        ensures { λ r. ⌜ Cases r (λ i. Put (now (self .entry)) place i (now (self .exit))) (λ e. NotPut (now (self .entry)) e (now (self .exit))) ⌝ }
     {
-        let place = self.used;
-        if place >= MOST_PLACES || place >= self.memory.len() {
+        let next = self.used;
+        if next >= MOST_PLACES || next >= self.memory.len() {
             return Err(Refusal::NoPlaceLeft);
         }
-        self.memory[place] = Place {
-            life,
-            struck: false,
-        };
-        self.used = place + 1;
-        Ok(place)
+        self.memory[next] = place;
+        self.used = next + 1;
+        Ok(next)
     }
 
     fn mark(&mut self, place: usize) -> Result<(), Refusal>

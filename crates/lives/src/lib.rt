@@ -2,11 +2,14 @@
 mod archiving;
 mod checking;
 mod keeping;
+mod loading;
+mod reopening;
 mod sheets;
 mod studies;
 mod types;
 mod words;
 
+pub use reopening::archive_laws;
 pub use sheets::SheetRow;
 pub use studies::OpenStudy;
 pub use studies::SealedStudy;
