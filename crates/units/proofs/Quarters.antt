@@ -13,27 +13,28 @@ use lib.Ieee.Exact.{HasValue, round-exact}
 use lib.Ieee.Back.{round-whole}
 use lib.Ieee.Fits.{and-i, and-l, and-r, up-pos, down-pos, eq→eqb}
 use Rattle.std.specs.Floats.{trunc, wholeBy}
-use Rattle.units.specs.Hours.{IsTicks}
+use Rattle.std.proofs.shelf.Tests.{and-parts}
+use Rattle.units.specs.Hours.{IsTicks, four-times, hours-in-range, equals-zero, equals-cut}
 
 -- ---- the numbers that the source writes
-abbrev pub none : Float
+abbrev none : Float
 none = fin false 0 (pos 0)
 
-abbrev pub last : Float
+abbrev last : Float
 last = fin false 2097151 (negsuc 1)
 
-abbrev pub four : Float
+abbrev four : Float
 four = fin false 1 (pos 2)
 
-pub none-is : ofBits binary64 0 ≡ none
+none-is : ofBits binary64 0 ≡ none
 unfolding ofBits
 none-is = refl
 
-pub last-is : ofBits binary64 4692750807425089536 ≡ last
+last-is : ofBits binary64 4692750807425089536 ≡ last
 unfolding ofBits
 last-is = refl
 
-pub four-is : ofBits binary64 4616189618054758400 ≡ four
+four-is : ofBits binary64 4616189618054758400 ≡ four
 unfolding ofBits
 four-is = refl
 
@@ -42,7 +43,7 @@ down-one : (e : ℤ) → up e * down e ≡ 1 → down e ≤ 2 ^ 1074
 down-one (pos k) h = lit≤ tt
 down-one (negsuc k) h = le-trans (le-of-eq (sym (one-mul (2 ^ suc k)) ∙ h)) (lit≤ tt)
 
-pub held : (s : Bool) (m : ℕ) (e : ℤ) → T (fits binary64 (fin s m e)) → (m < 2 ^ 53) × (down e ≤ 2 ^ 1074)
+held : (s : Bool) (m : ℕ) (e : ℤ) → T (fits binary64 (fin s m e)) → (m < 2 ^ 53) × (down e ≤ 2 ^ 1074)
 unfolding fits
 held s zero e t = (lit< tt, down-one e (eqb→eq (up e * down e) 1 t))
 held s (suc m) e t =
@@ -82,7 +83,7 @@ rounded s m e t h =
     let j = moved m e (f .1) in
     rw mul-one (round-exact binary64 s (m * up e * 4) (down e) m (j .0) (down-pos e) (f .0) (room (m * up e * 4) (m * 2 ^ j .0) (down e) (down-pos e) (j .1) h) (j .1))
 
-pub quarters : (s : Bool) (m : ℕ) (e : ℤ) → T (fits binary64 (fin s m e)) → m * up e * 4 ≤ 2097151 * down e → HasValue (mul binary64 (fin s m e) four) s (m * up e * 4) (down e)
+quarters : (s : Bool) (m : ℕ) (e : ℤ) → T (fits binary64 (fin s m e)) → m * up e * 4 ≤ 2097151 * down e → HasValue (mul binary64 (fin s m e) four) s (m * up e * 4) (down e)
 unfolding mul
 quarters true m e t h = rounded true m e t h
 quarters false m e t h = rounded false m e t h
@@ -101,7 +102,7 @@ apart U V D E t c C p q =
     let u : U ≡ t * D = sym (mul-one U) ∙ p in
     (v, ap (λ (x : ℕ). x * E) u ∙ mul-right-comm t D E ∙ ap (λ (x : ℕ). x * D) (sym v))
 
-pub eq-sound : (x y : Float) (t : ℕ) (s : Bool) (a c : ℕ) → HasValue x false t 1 → HasValue y s a c → T (eq x y) → a ≡ t * c
+eq-sound : (x y : Float) (t : ℕ) (s : Bool) (a c : ℕ) → HasValue x false t 1 → HasValue y s a c → T (eq x y) → a ≡ t * c
 unfolding eq
 eq-sound nan y t s a c p q h = absurd p
 eq-sound (inf r) y t s a c p q h = absurd p
@@ -116,7 +117,7 @@ signs false z k = tt
 signs true z (inl e) = absurd (true≢false e)
 signs true z (inr e) = eq→eqb e
 
-pub eq-complete : (x y : Float) (t : ℕ) (s : Bool) (c : ℕ) → 0 < c → HasValue x false t 1 → HasValue y s (t * c) c → (s ≡ false) ⊎ (t ≡ 0) → T (eq x y)
+eq-complete : (x y : Float) (t : ℕ) (s : Bool) (c : ℕ) → 0 < c → HasValue x false t 1 → HasValue y s (t * c) c → (s ≡ false) ⊎ (t ≡ 0) → T (eq x y)
 unfolding eq
 eq-complete nan y t s c C p q k = absurd p
 eq-complete (inf r) y t s c C p q k = absurd p
@@ -129,7 +130,7 @@ eq-complete (fin false n d) (fin r' n' d') t s c C p q k =
     and-i (eqb (n * up d * down d') (n' * up d' * down d)) (Bool·beq false r' || eqb (n * up d * down d') 0) (eq→eqb (f .1)) (signs r' (n * up d * down d') z)
 
 -- ---- the range, by `<=`
-abbrev pub InRange : Float → Type 0
+abbrev InRange : Float → Type 0
 InRange nan = ⊥
 InRange (inf s) = ⊥
 InRange (fin s m e) = (m * up e * 4 ≤ 2097151 * down e) × ((s ≡ false) ⊎ (m ≡ 0))
@@ -156,7 +157,7 @@ no-size : (m u z : ℕ) → 0 < u → 0 * z ≡ m * u * 1 → m ≡ 0
 no-size zero u z h e = refl
 no-size (suc m) u z h e = let p = mul-pos (zero-lt-suc m) h in absurd (omega arith)
 
-pub in-range : (x : Float) → T (le none x) → T (le x last) → InRange x
+in-range : (x : Float) → T (le none x) → T (le x last) → InRange x
 unfolding le
 in-range nan a b = absurd a
 in-range (inf true) a b = absurd a
@@ -166,7 +167,7 @@ in-range (fin true m e) a b =
     let z : m ≡ 0 = no-size m (up e) (down e) (up-pos e) (eqb→eq (0 * down e) (m * up e * 1) (and-l (eqb (0 * down e) (m * up e * 1)) (eqb (0 * down e) 0) a)) in
     (le-trans (le-of-eq (ap (λ (x : ℕ). x * up e * 4) z ∙ ap (λ (x : ℕ). x * 4) (zero-mul (up e)))) (omega arith), inr z)
 
-pub range-low : (x : Float) → InRange x → T (le none x)
+range-low : (x : Float) → InRange x → T (le none x)
 unfolding le
 range-low nan r = absurd r
 range-low (inf s) r = absurd r
@@ -176,7 +177,7 @@ range-low (fin true m e) (a, inr z) =
     and-i (eqb (0 * down e) (m * up e * 1)) (eqb (0 * down e) 0)
     (eq→eqb (zero-mul (down e) ∙ sym (mul-one (m * up e) ∙ ap (λ (x : ℕ). x * up e) z ∙ zero-mul (up e)))) (eq→eqb (zero-mul (down e)))
 
-pub range-high : (x : Float) → InRange x → T (le x last)
+range-high : (x : Float) → InRange x → T (le x last)
 unfolding le
 range-high nan r = absurd r
 range-high (inf s) r = absurd r
@@ -186,7 +187,7 @@ range-high (fin true m e) r =
     or-l (ltb 0 (m * up e * 4 + 2097151 * down e)) (level true (m * up e * 4) false (2097151 * down e)) (lt→ltb 0 (m * up e * 4 + 2097151 * down e) (omega arith))
 
 -- ---- what the code found, and what it would have found
-pub ticks-in-range : (x : Float) (t : ℕ) → IsTicks x t → InRange x
+ticks-in-range : (x : Float) (t : ℕ) → IsTicks x t → InRange x
 ticks-in-range nan t k = absurd k
 ticks-in-range (inf s) t k = absurd k
 ticks-in-range (fin s m e) t k = (le-trans (le-of-eq (k .0)) (mul-le-mul-right (down e) (k .2)), k .1)
@@ -217,7 +218,7 @@ equal-zero (fin r n d) s a c q t =
     no-factor a (down d) (down-pos d) (sym (q .1) ∙ ap (λ (x : ℕ). x * c) n0 ∙ zero-mul c)
 
 -- the test for 0.0 passed: no tick
-pub zero-ticks : (x : Float) → T (fits binary64 x) → InRange x → T (eq (mul binary64 x four) none) → IsTicks x 0
+zero-ticks : (x : Float) → T (fits binary64 x) → InRange x → T (eq (mul binary64 x four) none) → IsTicks x 0
 zero-ticks nan f r h = absurd r
 zero-ticks (inf s) f r h = absurd r
 zero-ticks (fin s m e) f r h =
@@ -270,7 +271,7 @@ unfolding wholeBy
 cut-value n d h = round-whole binary64 false (n * up d / down d) (omega arith)
 
 -- the test for a whole number passed: the cast loses nothing, and answers the ticks
-pub whole-ticks : (x : Float) → T (fits binary64 x) → InRange x → (T (eq (mul binary64 x four) none) → ⊥) → T (eq (trunc binary64 (mul binary64 x four)) (mul binary64 x four)) → T (inUnsigned binary64 32 (mul binary64 x four)) × IsTicks x (toUnsigned 32 (mul binary64 x four))
+whole-ticks : (x : Float) → T (fits binary64 x) → InRange x → (T (eq (mul binary64 x four) none) → ⊥) → T (eq (trunc binary64 (mul binary64 x four)) (mul binary64 x four)) → T (inUnsigned binary64 32 (mul binary64 x four)) × IsTicks x (toUnsigned 32 (mul binary64 x four))
 whole-ticks nan f r h t = absurd r
 whole-ticks (inf s) f r h t = absurd r
 whole-ticks (fin s m e) f r h t = found (past-zero s m e f r h)
@@ -288,7 +289,7 @@ whole-ticks (fin s m e) f r h t = found (past-zero s m e f r h)
          subst (λ (z : ℕ). IsTicks (fin s m e) z) (sym (k .1) ∙ ap (toUnsigned 32) (sym (y .is))) (a, inl plus, b))
 
 -- hours that are ticks pass the test
-pub ticks-whole : (x : Float) (t : ℕ) → T (fits binary64 x) → IsTicks x t → (T (eq (mul binary64 x four) none) → ⊥) → T (eq (trunc binary64 (mul binary64 x four)) (mul binary64 x four))
+ticks-whole : (x : Float) (t : ℕ) → T (fits binary64 x) → IsTicks x t → (T (eq (mul binary64 x four) none) → ⊥) → T (eq (trunc binary64 (mul binary64 x four)) (mul binary64 x four))
 ticks-whole nan t f k h = absurd k
 ticks-whole (inf s) t f k h = absurd k
 ticks-whole (fin s m e) t f k h = found (past-zero s m e f (ticks-in-range (fin s m e) t k) h)
@@ -303,3 +304,45 @@ ticks-whole (fin s m e) t f k h = found (past-zero s m e f (ticks-in-range (fin 
         let c : HasValue (trunc binary64 (fin false n d)) false t 1 = subst (λ (z : ℕ). HasValue (trunc binary64 (fin false n d)) false z 1) v (cut-value n d b) in
         let q : HasValue (fin false n d) false (t * down d) (down d) = (refl, ap (λ (z : ℕ). z * down d) u) in
         subst (λ (z : Float). T (eq (trunc binary64 z) z)) (sym (y .is)) (eq-complete (trunc binary64 (fin false n d)) (fin false n d) t false (down d) (down-pos d) c q (inl refl))
+
+-- ---- the tests of the code
+holds : {b : Bool} → b ≡ true → T b
+holds e = subst T (sym e) tt
+
+fails : {b : Bool} → b ≡ false → T b → ⊥
+fails e t = subst T e t
+
+ranged : (x : Float) → true ≡ hours-in-range x → InRange x
+ranged x e =
+    let p = and-parts (le (ofBits binary64 0) x) (le x (ofBits binary64 0x411f_ffff_0000_0000)) (sym e) in
+    in-range x (holds (rw none-is at (p .0))) (holds (rw last-is at (p .1)))
+
+pub out-of-range : (x : Float) → false ≡ hours-in-range x → (t : ℕ) → IsTicks x t → ⊥
+out-of-range x e t k =
+    let r = ticks-in-range x t k in
+    let low : T (le (ofBits binary64 0) x) = rw none-is (range-low x r) in
+    let high : T (le x (ofBits binary64 0x411f_ffff_0000_0000)) = rw last-is (range-high x r) in
+    fails (sym e) (and-i (le (ofBits binary64 0) x) (le x (ofBits binary64 0x411f_ffff_0000_0000)) low high)
+
+product : (x q : Float) → q ≡ four-times x → q ≡ mul binary64 x four
+product x q e = e ∙ ap (mul binary64 x) four-is
+
+zero-test : (x q : Float) → q ≡ four-times x → equals-zero q ≡ eq (mul binary64 x four) none
+zero-test x q e = ap (eq q) none-is ∙ ap (λ z. eq z none) (product x q e)
+
+cut-test : (x q : Float) → q ≡ four-times x → equals-cut q ≡ eq (trunc binary64 (mul binary64 x four)) (mul binary64 x four)
+cut-test x q e = ap equals-cut (product x q e)
+
+-- no ticks at 0.0
+pub zero-found : (x q : Float) → T (fits binary64 x) → q ≡ four-times x → true ≡ hours-in-range x → true ≡ equals-zero q → IsTicks x 0
+zero-found x q f e r z = zero-ticks x f (ranged x r) (holds (sym (zero-test x q e) ∙ sym z))
+
+-- a whole number: the cast loses nothing and answers the ticks
+pub ticks-found : (x q : Float) → T (fits binary64 x) → q ≡ four-times x → true ≡ hours-in-range x → false ≡ equals-zero q → true ≡ equals-cut q → T (inUnsigned binary64 32 q) × IsTicks x (toUnsigned 32 q)
+ticks-found x q f e r z w =
+    subst (λ y. T (inUnsigned binary64 32 y) × IsTicks x (toUnsigned 32 y)) (sym (product x q e))
+    (whole-ticks x f (ranged x r) (fails (sym (zero-test x q e) ∙ sym z)) (holds (sym (cut-test x q e) ∙ sym w)))
+
+-- a fraction: no ticks are meant
+pub fraction-found : (x q : Float) → T (fits binary64 x) → q ≡ four-times x → false ≡ equals-zero q → false ≡ equals-cut q → (t : ℕ) → IsTicks x t → ⊥
+fraction-found x q f e z w t k = fails (sym (cut-test x q e) ∙ sym w) (ticks-whole x t f k (fails (sym (zero-test x q e) ∙ sym z)))

@@ -4,7 +4,8 @@ use mathlib.Core.Path.{_≡_}
 use mathlib.Core.Bool.{Bool, false, not, cond, _&&_, _||_}
 use mathlib.Core.Logic.{_⊎_}
 use lib.Dec.{eqb, leb}
-use lib.Ieee.{Float, nan, inf, fin, up, down}
+use lib.Ieee.{Float, nan, inf, fin, up, down, binary64, mul, le, eq, ofBits}
+use Rattle.std.specs.Floats.{trunc}
 use Rattle.std.specs.declared.result.Result.{Result}
 use Rattle.std.specs.declared.result.Result.the-variants.{Ok, Err}
 use Rattle.units.specs.declared.ages.Age.{Age}
@@ -32,3 +33,19 @@ hours-age (fin s m e) =
     cond (eqb (m * up e * 4 % down e) 0 && leb (m * up e * 4 / down e) last-tick && (not s || eqb m 0))
     (Ok (m * up e * 4 / down e))
     (Err (refused 2))
+
+-- ---- the tests of the code, by the operations of binary64
+
+abbrev pub four-times : Float → Float
+four-times x = mul binary64 x (ofBits binary64 0x4010_0000_0000_0000)
+
+-- from 0.0 to 524,287.75
+abbrev pub hours-in-range : Float → Bool
+hours-in-range x = le (ofBits binary64 0) x && le x (ofBits binary64 0x411f_ffff_0000_0000)
+
+abbrev pub equals-zero : Float → Bool
+equals-zero x = eq x (ofBits binary64 0)
+
+-- nothing is lost where the fraction is cut off
+abbrev pub equals-cut : Float → Bool
+equals-cut x = eq (trunc binary64 x) x

@@ -3,7 +3,7 @@ ghost use mathlib.Core.Path.{_≡_};
 ghost use Prim.Native.Nat.{ℕ, _≤_};
 ghost use Rattle.std.specs.Options.{Cases as BySome};
 ghost use Rattle.std.specs.Results.{Cases};
-ghost use Rattle.units.specs.Hours.{IsTicks, age-ticks, hours-age};
+ghost use Rattle.units.specs.Hours.{IsTicks, age-ticks, equals-cut, equals-zero, four-times, hours-age, hours-in-range};
 ghost use Rattle.units.specs.Refusals.{seen};
 use crate::ages::Age;
 use crate::refusals::Refusal;
@@ -27,16 +27,41 @@ impl Age {
 fn ticks(hours: f64) -> Option<Age>
     ensures { λ r. ⌜ BySome r ((t : ℕ) → IsTicks hours t → ⊥) (λ a. IsTicks hours (age-ticks a)) ⌝ }
 {
-    if 0.0 <= hours && hours <= LAST_HOURS {
-        // Exact: only the exponent changes.
-        let quarters = hours * TICKS_PER_HOUR;
-        if quarters == 0.0 {
-            // Minus zero too, which no cast takes.
-            return Some(Age(0));
-        }
-        if quarters.trunc() == quarters {
-            return Some(Age(quarters as u32));
-        }
+    if !in_range(hours) {
+        return None;
     }
-    None
+    let quarters = in_quarters(hours);
+    // Minus zero too, which no cast takes.
+    if is_zero(quarters) {
+        return Some(Age(0));
+    }
+    if !is_whole(quarters) {
+        return None;
+    }
+    Some(Age(quarters as u32))
+}
+
+fn in_range(hours: f64) -> bool
+    ensures { λ r. ⌜ r ≡ hours-in-range hours ⌝ }
+{
+    0.0 <= hours && hours <= LAST_HOURS
+}
+
+// Exact for hours in range: only the exponent changes.
+fn in_quarters(hours: f64) -> f64
+    ensures { λ r. ⌜ r ≡ four-times hours ⌝ }
+{
+    hours * TICKS_PER_HOUR
+}
+
+fn is_zero(number: f64) -> bool
+    ensures { λ r. ⌜ r ≡ equals-zero number ⌝ }
+{
+    number == 0.0
+}
+
+fn is_whole(number: f64) -> bool
+    ensures { λ r. ⌜ r ≡ equals-cut number ⌝ }
+{
+    number.trunc() == number
 }
