@@ -2,7 +2,6 @@
 ghost use mathlib.Core.Path.{_≡_};
 ghost use mathlib.Core.Bool.{false};
 ghost use mathlib.Core.List.{map};
-ghost use lib.ListN.{length};
 ghost use denote.Ref.{name};
 ghost use Rattle.std.specs.Results.{isOk, Cases};
 ghost use Rattle.units.specs.Refusals.{answer};
@@ -83,11 +82,11 @@ impl<'a> OpenStudy<'a> {
     }
 }
 
-impl<'a> SealedStudy<'a> {
-    // How many places are used.
-    pub fn len(&self) -> usize
-        ensures { λ r. ⌜ r ≡ length (sealed (now (self .entry)) .places) ⌝ }
+impl SealedStudy<'_> {
+    // The places in use, in order.
+    pub fn places(&self) -> &[Place]
+        ensures { λ r. ⌜ map plain (now r) ≡ sealed (now (self .entry)) .places ⌝ }
     {
-        self.used
+        &self.memory[0..self.used]
     }
 }
