@@ -18,7 +18,7 @@ use Rattle.lives.specs.declared.types.Life.{Life}
 use Rattle.lives.specs.declared.types.Place.{Place}
 use Rattle.lives.specs.declared.studies.OpenStudy.{OpenStudy}
 use Rattle.lives.specs.Lives.{PlainLife, plain, plain-life}
-use Rattle.lives.specs.Memory.{Put, NotPut, Marked, NotMarked, room-in, struck-place}
+use Rattle.lives.specs.Memory.{Put, NotPut, Marked, NotMarked, room-in, struck-place, unstruck-place}
 use Rattle.lives.specs.Studies.{Held, held, held-in, has-place, enter-answer, enter-after, strike-answer, strike-after, unstruck-at}
 use Rattle.lives.proofs.Places.{any-place, length-used, has-place-is, held-entered, unstruck-in, unstruck-past, held-struck}
 
@@ -29,11 +29,11 @@ pub record Entered (s : OpenStudy) (j : Result PlainLife Refused) (r : Result �
   pub refused : isOk r ≡ false → t ≡ s
   pub named : name (t .memory) ≡ name (s .memory)
 
-pub entered : (s t : OpenStudy) (j : Result PlainLife Refused) (l : Life) (r : Result ℕ Refusal) → Ok (plain-life l) ≡ j → Cases r (λ i. Put s (record { life = l; struck = false }) i t) (λ e. NotPut s e t) → Entered s j r t
+pub entered : (s t : OpenStudy) (j : Result PlainLife Refused) (l : Life) (r : Result ℕ Refusal) → Ok (plain-life l) ≡ j → Cases r (λ i. Put s (unstruck-place l) i t) (λ e. NotPut s e t) → Entered s j r t
 entered s t j l (Ok i) judged p =
     let m = now (s .memory) in
     let n = s .used in
-    let x : Place = record { life = l; struck = false } in
+    let x = unstruck-place l in
     let free : has-place (held s) ≡ true = has-place-is m n (s .ok .1) ∙ lt-ltb n (room-in m) (p .free) in
     record {
       answer = ap Ok (p .next ∙ sym (length-used m n (s .ok .1))) ∙ sym (cond-true _ _ _ free) ∙ ap (enter-answer (held s)) judged;

@@ -1,5 +1,6 @@
 -- What taking over a sealed study promises, on each way through it.
-use mathlib.Core.Path.{_≡_, refl, sym, ap, _∙_}
+use mathlib.Core.Path.{_≡_, refl, sym, ap, _∙_, subst}
+use mathlib.Core.Logic.{inl, inr}
 use mathlib.Core.List.{List, _++_, map}
 use mathlib.Core.Bool.{Bool, true, false, cond, _&&_}
 use Prim.Native.Nat.{ℕ, _<_, _≤_, min}
@@ -18,6 +19,7 @@ use Rattle.lives.specs.declared.studies.SealedStudy.{SealedStudy}
 use Rattle.lives.specs.Archive.{archive-length, write-after, write-answer}
 use Rattle.lives.specs.Decode.{decode, load-after, load-answer, room-after, room-answer}
 use Rattle.lives.specs.Lives.{PlainPlace}
+use Rattle.lives.specs.Memory.{Ready}
 use Rattle.lives.specs.RoundTrip.{can-take-over, take-over-after, take-over-answer, take-over-words}
 use Rattle.lives.specs.Studies.{Held, held, sealed, room}
 use Rattle.lives.proofs.Loaded.{busy, empty}
@@ -32,7 +34,7 @@ pub record TakenOver (h : Held) (ps : List PlainPlace) (ws : List ℕ) (r : Resu
 unchanged : (h : Held) (ps : List PlainPlace) (ws : List ℕ) (r : Result ℕ Refusal) → answer r ≡ take-over-answer h ps ws → can-take-over h ps ws ≡ false → TakenOver h ps ws r h ws
 unchanged h ps ws r a off = record { answer = a; after = sym (cond-false _ _ _ off); words = sym (cond-false _ _ _ off) }
 
-pub used-already : (s : OpenStudy) (ps : List PlainPlace) (ws : List ℕ) → 0 < s .used → TakenOver (held s) ps ws (Err StudyInUse) (held s) ws
+used-already : (s : OpenStudy) (ps : List PlainPlace) (ws : List ℕ) → 0 < s .used → TakenOver (held s) ps ws (Err StudyInUse) (held s) ws
 used-already s ps ws u =
     let off = busy s u in
     unchanged (held s) ps ws (Err StudyInUse) (sym (cond-false _ _ _ off)) (and-left _ _ (and-left _ _ off))
@@ -41,11 +43,16 @@ used-already s ps ws u =
 fits : (s : OpenStudy) (f : SealedStudy) → f .used ≤ length (now (s .memory)) → leb (length (sealed f .places)) (room (held s)) ≡ true
 fits s f h = le-leb (length (sealed f .places)) (room (held s)) (omega (arith, length-used (now (f .memory)) (f .used) (f .ok .1), room-is (now (s .memory)) (s .used) (s .ok .1), f .ok .0))
 
-pub room-short : (s : OpenStudy) (f : SealedStudy) (ws : List ℕ) → s .used ≡ 0 → length (now (s .memory)) < f .used → TakenOver (held s) (sealed f .places) ws (Err NoPlaceLeft) (held s) ws
+room-short : (s : OpenStudy) (f : SealedStudy) (ws : List ℕ) → s .used ≡ 0 → length (now (s .memory)) < f .used → TakenOver (held s) (sealed f .places) ws (Err NoPlaceLeft) (held s) ws
 room-short s f ws z h =
     let ps = sealed f .places in
     let off : leb (length ps) (room (held s)) ≡ false = lt-leb (length ps) (room (held s)) (omega (arith, length-used (now (f .memory)) (f .used) (f .ok .1), room-is (now (s .memory)) (s .used) (s .ok .1))) in
     unchanged (held s) ps ws (Err NoPlaceLeft) (sym (cond-true _ _ _ (empty s z) ∙ cond-false _ _ _ off)) (and-left _ _ (and-right _ _ off))
+
+-- the study was not ready
+pub not-ready : (s : OpenStudy) (f : SealedStudy) (ws : List ℕ) (e : Refusal) → Ready s (f .used) (Err e) → TakenOver (held s) (sealed f .places) ws (Err e) (held s) ws
+not-ready s f ws e (inl (why, u)) = subst (λ x. TakenOver (held s) (sealed f .places) ws (Err x) (held s) ws) (sym why) (used-already s (sealed f .places) ws u)
+not-ready s f ws e (inr (why, z, h)) = subst (λ x. TakenOver (held s) (sealed f .places) ws (Err x) (held s) ws) (sym why) (room-short s f ws z h)
 
 -- the words were too few, whatever the refusal is that says so
 pub words-short : (s : OpenStudy) (f : SealedStudy) (ws : List ℕ) (written : List ℕ) (e : Refusal) → s .used ≡ 0 → f .used ≤ length (now (s .memory)) → Err (told e) ≡ write-answer (sealed f .places) ws → written ≡ write-after (sealed f .places) ws → TakenOver (held s) (sealed f .places) ws (Err e) (held s) written

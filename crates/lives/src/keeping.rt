@@ -6,10 +6,11 @@ ghost use denote.Ref.{name};
 ghost use Rattle.std.specs.Results.{isOk, Cases};
 ghost use Rattle.units.specs.Refusals.{answer};
 ghost use Rattle.lives.specs.Lives.{judge, plain};
-ghost use Rattle.lives.specs.Memory.{Put, NotPut, Marked, NotMarked};
+ghost use Rattle.lives.specs.Memory.{Marked, NotMarked, NotPut, Put, unstruck-place};
 ghost use Rattle.lives.specs.Studies.{enter-after, enter-answer, held, opened, sealed, strike-after, strike-answer};
 use crate::studies::OpenStudy;
 use crate::studies::SealedStudy;
+use crate::types::Life;
 use crate::types::Place;
 use crate::types::UncheckedLife;
 use units::Refusal;
@@ -33,7 +34,7 @@ impl<'a> OpenStudy<'a> {
         ensures named { λ r. ⌜ name (now (self .exit) .memory) ≡ name (now (self .entry) .memory) ⌝ }
     {
         let life = unchecked.check()?;
-        self.put(Place { life, struck: false })
+        self.put_unstruck(life)
     }
 
     // Strikes the life at a place: it keeps its place and counts in no fit.
@@ -55,8 +56,17 @@ impl<'a> OpenStudy<'a> {
         SealedStudy { memory, used }
     }
 
+    pub(crate) fn put_unstruck(&mut self, life: Life) -> Result<usize, Refusal>
+        ensures { λ r. ⌜ Cases r (λ i. Put (now (self .entry)) (unstruck-place life) i (now (self .exit))) (λ e. NotPut (now (self .entry)) e (now (self .exit))) ⌝ }
+    {
+        self.put(Place {
+            life,
+            struck: false,
+        })
+    }
+
     // The next place of memory is used.
-    pub(crate) fn put(&mut self, place: Place) -> Result<usize, Refusal>
+    fn put(&mut self, place: Place) -> Result<usize, Refusal>
         ensures { λ r. ⌜ Cases r (λ i. Put (now (self .entry)) place i (now (self .exit))) (λ e. NotPut (now (self .entry)) e (now (self .exit))) ⌝ }
     {
         let next = self.used;

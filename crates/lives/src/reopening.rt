@@ -2,6 +2,7 @@
 ghost use mathlib.Core.Path.{_≡_};
 ghost use denote.Ref.{name};
 ghost use Rattle.units.specs.Refusals.{answer};
+ghost use Rattle.lives.specs.Memory.{Ready};
 ghost use Rattle.lives.specs.RoundTrip.{Only-written, Reads-back, take-over-after, take-over-answer, take-over-words};
 ghost use Rattle.lives.specs.Studies.{held, sealed};
 use crate::studies::OpenStudy;
@@ -16,14 +17,22 @@ impl OpenStudy<'_> {
         ensures words { λ r. ⌜ now (words .exit) ≡ take-over-words (held (now (self .entry))) (sealed (now (from .entry)) .places) (now (words .entry)) ⌝ }
         ensures named { λ r. ⌜ name (now (self .exit) .memory) ≡ name (now (self .entry) .memory) ⌝ }
     {
+        self.ready_for(from.used)?;
+        let length = from.write(words)?;
+        self.load(&words[0..length])
+    }
+
+    // Whether the study is empty and its memory has so many places.
+    fn ready_for(&self, count: usize) -> Result<(), Refusal>
+        ensures { λ r. ⌜ Ready (now (self .entry)) count r ⌝ }
+    {
         if self.used > 0 {
             return Err(Refusal::StudyInUse);
         }
-        if from.used > self.memory.len() {
+        if count > self.memory.len() {
             return Err(Refusal::NoPlaceLeft);
         }
-        let length = from.write(words)?;
-        self.load(&words[0..length])
+        Ok(())
     }
 }
 

@@ -9,7 +9,6 @@ ghost use Rattle.lives.specs.Sheets.{plain-row, row-life, status-word};
 ghost use Rattle.lives.specs.Studies.{enter-after, enter-answer, held};
 use crate::studies::OpenStudy;
 use crate::types::Life;
-use crate::types::Place;
 use crate::types::Status;
 use crate::types::UncheckedLife;
 use units::Age;
@@ -65,6 +64,6 @@ impl OpenStudy<'_> {
         ensures named { λ r. ⌜ name (now (self .exit) .memory) ≡ name (now (self .entry) .memory) ⌝ }
     {
         let life = row.check()?;
-        self.put(Place { life, struck: false })
+        self.put_unstruck(life)
     }
 }

@@ -1,6 +1,7 @@
 // Archive words: the kind in the top four bits, the payload in the other 28.
 ghost use mathlib.Core.Path.{_≡_};
-ghost use Prim.Native.Nat.{_<_, _^_};
+ghost use Prim.Native.Nat.{_+_, _*_, _/_, _%_, _<_, _^_};
+ghost use lib.Bits.{bitOr};
 ghost use Rattle.lives.specs.Archive.{check-of, kind-of, payload-of, word-of};
 
 // The kinds of words.
@@ -43,7 +44,13 @@ pub(crate) fn check_word(words: &[u32]) -> u32
 {
     let mut sum: u32 = 0;
     for word in words {
-        sum = sum.rotate_left(5).wrapping_add(*word);
+        sum = check_step(sum, *word);
     }
     sum
+}
+
+fn check_step(sum: u32, word: u32) -> u32
+    ensures { λ r. ⌜ r ≡ (bitOr (sum * 2 ^ 5 % 2 ^ 32) (sum / 2 ^ 27) + word) % 2 ^ 32 ⌝ }
+{
+    sum.rotate_left(5).wrapping_add(word)
 }

@@ -65,3 +65,34 @@ fn is_whole(number: f64) -> bool
 {
     number.trunc() == number
 }
+
+#[cfg(test)]
+mod tests {
+    use super::*;
+    use std::test::*;
+
+    // The ticks of some hours, or none.
+    fn read(hours: f64) -> Option<u32> {
+        match Age::from_hours(hours) {
+            Ok(age) => Some(age.0),
+            Err(_) => None,
+        }
+    }
+
+    #[test]
+    fn hours_that_are_ticks() -> Result<(), Fail> {
+        check_eq(read(0.25), Some(1))?;
+        check_eq(read(-0.0), Some(0))?;
+        check_eq(read(524287.75), Some(2097151))
+    }
+
+    #[test]
+    fn hours_that_are_none() -> Result<(), Fail> {
+        check_eq(read(0.1), None)?;
+        check_eq(read(524288.0), None)?;
+        check_eq(read(-0.25), None)?;
+        check_eq(read(f64::NAN), None)?;
+        check_eq(read(f64::INFINITY), None)?;
+        check_eq(read(5e-324), None)
+    }
+}

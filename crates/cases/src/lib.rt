@@ -1,0 +1,3 @@
+// Worked cases of the rules, run.
+#[cfg(test)]
+mod life_cases;
