@@ -65,7 +65,7 @@ spare-past : (s : OpenStudy) (n : ℕ) → s .used ≡ 0 → map plain (drop n (
 spare-past s n z = sym (drop-map plain n (now (s .memory))) ∙ ap (λ k. drop n (map plain (drop k (now (s .memory))))) (sym z)
 
 pub loaded : (s t : OpenStudy) (ws : List ℕ) (n : ℕ) → s .used ≡ 0 → n ≤ length (now (s .memory)) → Checked ws (Ok n) →
-  places-from n 2 ws ≡ Ok (held t .places) → held t .spare ≡ map plain (drop n (now (s .memory))) → name (t .memory) ≡ name (s .memory) → Loaded s ws (Ok n) t
+    places-from n 2 ws ≡ Ok (held t .places) → held t .spare ≡ map plain (drop n (now (s .memory))) → name (t .memory) ≡ name (s .memory) → Loaded s ws (Ok n) t
 loaded s t ws n z h c read left same =
     let ps = c .2 .0 in
     let k = to-empty s ws (Ok ps) z (c .2 .2) in

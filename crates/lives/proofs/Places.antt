@@ -39,7 +39,7 @@ spare-more : (m : List Place) (n : ℕ) → map plain (drop (n + 1) m) ≡ drop 
 spare-more m n = sym (drop-map plain 1 (drop n m) ∙ ap (map plain) (drop-drop 1 n m))
 
 pub held-entered : (m : List Place) (n : ℕ) (p : Place) → n < length m →
-  held-in (set m n p) (n + 1) ≡ record { places = map plain (take n m) ++ plain p ∷ []; spare = drop 1 (map plain (drop n m)) }
+    held-in (set m n p) (n + 1) ≡ record { places = map plain (take n m) ++ plain p ∷ []; spare = drop 1 (map plain (drop n m)) }
 held-entered m n p h =
     same-held
     (ap (map plain) (take-more-set m n p h) ∙ map-push plain (take n m) p)
@@ -65,5 +65,5 @@ struck-take (y ∷ m) (suc k) zero d h = refl
 struck-take (y ∷ m) (suc k) (suc i) d h = ap (λ ps. plain y ∷ ps) (struck-take m k i d (le-of-suc-le-suc h))
 
 pub held-struck : (m : List Place) (n i : ℕ) (d : Place) → i < n →
-  held-in (set m i (struck-place (getD m i d))) n ≡ record { places = struck-at (map plain (take n m)) i; spare = map plain (drop n m) }
+    held-in (set m i (struck-place (getD m i d))) n ≡ record { places = struck-at (map plain (take n m)) i; spare = map plain (drop n m) }
 held-struck m n i d h = same-held (sym (struck-take m n i d h)) (ap (map plain) (drop-set-lt n m i (struck-place (getD m i d)) h))

@@ -71,16 +71,16 @@ words-short s f ws written e z h w after =
     not-written true n e w = absurd (let z : _≡_ {A = ℕ} 0 1 = cc in omega arith)
 
 pub taken-over : (s : OpenStudy) (f : SealedStudy) (ws written read : List ℕ) (n : ℕ) (r : Result ℕ Refusal) (t : OpenStudy) → s .used ≡ 0 → f .used ≤ length (now (s .memory)) →
-  Ok n ≡ write-answer (sealed f .places) ws → written ≡ write-after (sealed f .places) ws → decode read ≡ Ok (sealed f .places) →
-  answer r ≡ load-answer (held s) read → held t ≡ load-after (held s) read → TakenOver (held s) (sealed f .places) ws r (held t) written
+    Ok n ≡ write-answer (sealed f .places) ws → written ≡ write-after (sealed f .places) ws → decode read ≡ Ok (sealed f .places) →
+    answer r ≡ load-answer (held s) read → held t ≡ load-after (held s) read → TakenOver (held s) (sealed f .places) ws r (held t) written
 taken-over s f ws written read n r t z h w after d a b =
     let ps = sealed f .places in
     let on = was-written (leb (archive-length ps) (length ws)) (archive-length ps) n w in
     let can = and-from _ _ (and-from _ _ (empty s z) (fits s f h)) on in
     record {
       answer =
-        a ∙ cond-true _ _ _ (empty s z) ∙ ap (room-answer (room (held s))) d ∙ cond-true _ _ _ (fits s f h)
-        ∙ sym (cond-true _ _ _ (empty s z) ∙ cond-true _ _ _ (fits s f h) ∙ cond-true _ _ _ on);
+          a ∙ cond-true _ _ _ (empty s z) ∙ ap (room-answer (room (held s))) d ∙ cond-true _ _ _ (fits s f h)
+          ∙ sym (cond-true _ _ _ (empty s z) ∙ cond-true _ _ _ (fits s f h) ∙ cond-true _ _ _ on);
       after = b ∙ cond-true _ _ _ (empty s z) ∙ ap (room-after (held s)) d ∙ cond-true _ _ _ (fits s f h) ∙ sym (cond-true _ _ _ can);
       words = after ∙ cond-true _ _ _ on ∙ sym (cond-true _ _ _ can);
     }

@@ -10,6 +10,7 @@ use units::Age;
 use units::Refusal;
 
 const LAST_SERIAL: u32 = 268_435_455;
+
 const LAST_AGE: u32 = 2_097_151;
 
 impl Status {

@@ -38,6 +38,7 @@ use units::WordPlace;
 
 // An entry age is below an exit age, and an exit age is at most 2,097,151.
 const LAST_ENTRY: u32 = 2_097_150;
+
 const LAST_EXIT: u32 = 2_097_151;
 
 impl OpenStudy<'_> {

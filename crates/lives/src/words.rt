@@ -6,10 +6,15 @@ ghost use Rattle.lives.specs.Archive.{check-of, kind-of, payload-of, word-of};
 
 // The kinds of words.
 pub(crate) const FORM_KIND: u32 = 1;
+
 pub(crate) const COUNT_KIND: u32 = 2;
+
 pub(crate) const SERIAL_KIND: u32 = 3;
+
 pub(crate) const ENTRY_KIND: u32 = 4;
+
 pub(crate) const EXIT_KIND: u32 = 5;
+
 pub(crate) const STATUS_KIND: u32 = 6;
 
 // The form of the archive, the payload of its first word.

@@ -33,7 +33,6 @@ sign-forth true m (inr e) = eq-eqb m 0 e
 whole : (q d t : ℕ) → q % d ≡ 0 → q / d ≡ t → q ≡ t * d
 whole q d t z e = sym (div-add-mod' q d) ∙ ap (λ (r : ℕ). q / d * d + r) z ∙ ap (λ (r : ℕ). r * d + 0) e ∙ omega arith
 
-
 -- the ticks of hours that are ticks
 meant-ticks : (x : Float) (t : ℕ) → IsTicks x t → hours-age x ≡ Ok t
 unfolding hours-age
@@ -63,9 +62,9 @@ meant-refused (fin s m e) k =
     let d = down e in
     tested (eqb (q % d) 0 && leb (q / d) last-tick && (not s || eqb m 0)) (q / d) (IsTicks (fin s m e) (q / d))
     (λ h.
-      let g = and-parts (eqb (q % d) 0 && leb (q / d) last-tick) (not s || eqb m 0) h in
-      let g' = and-parts (eqb (q % d) 0) (leb (q / d) last-tick) (g .0) in
-      (whole q d (q / d) (eqb-true (q % d) 0 (g' .0)) refl, sign-back s m (g .1), leb-true (q / d) last-tick (g' .1)))
+    let g = and-parts (eqb (q % d) 0 && leb (q / d) last-tick) (not s || eqb m 0) h in
+    let g' = and-parts (eqb (q % d) 0) (leb (q / d) last-tick) (g .0) in
+    (whole q d (q / d) (eqb-true (q % d) 0 (g' .0)) refl, sign-back s m (g .1), leb-true (q / d) last-tick (g' .1)))
     (k (q / d))
 
 pub age-meant : (x : Float) (r : Option Age) → BySome r ((t : ℕ) → IsTicks x t → ⊥) (λ a. IsTicks x (age-ticks a)) → seen age-ticks (okOr r NotQuarterHours) ≡ hours-age x

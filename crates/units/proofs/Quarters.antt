@@ -192,7 +192,6 @@ ticks-in-range nan t k = absurd k
 ticks-in-range (inf s) t k = absurd k
 ticks-in-range (fin s m e) t k = (le-trans (le-of-eq (k .0)) (mul-le-mul-right (down e) (k .2)), k .1)
 
-
 -- ---- 0.0 and minus zero
 no-factor : (a b : ℕ) → 0 < b → a * b ≡ 0 → a ≡ 0
 no-factor zero b h e = refl
@@ -259,11 +258,12 @@ cast-takes n d t h b =
     let cut : n * up d / down d ≡ t = ap (λ (x : ℕ). x / down d) h ∙ mul-div-cancel t (down-pos d) in
     let rest : n * up d % down d ≡ 0 = ap (λ (x : ℕ). x % down d) h ∙ mul-mod-left t (down d) in
     let low : T (leb (n * up d / down d) (2 ^ 53)) = le→leb (n * up d / down d) (2 ^ 53) (omega arith) in
-    let high : T (ltb (n * up d / down d) (2 ^ 32)) = lt→ltb (n * up d / down d) (2 ^ 32) (omega arith) in
-    (and-i (eqb (n * up d % down d) 0 && leb (n * up d / down d) (2 ^ 53) && true) (ltb (n * up d / down d) (2 ^ 32))
-     (and-i (eqb (n * up d % down d) 0 && leb (n * up d / down d) (2 ^ 53)) true
-      (and-i (eqb (n * up d % down d) 0) (leb (n * up d / down d) (2 ^ 53)) (eq→eqb rest) low) tt) high,
-     omega arith)
+    let high : T (ltb (n * up d / down d) (2 ^ 32)) = lt→ltb (n * up d / down d) (2 ^ 32) (omega arith) in (
+      and-i (eqb (n * up d % down d) 0 && leb (n * up d / down d) (2 ^ 53) && true) (ltb (n * up d / down d) (2 ^ 32))
+          (and-i (eqb (n * up d % down d) 0 && leb (n * up d / down d) (2 ^ 53)) true
+          (and-i (eqb (n * up d % down d) 0) (leb (n * up d / down d) (2 ^ 53)) (eq→eqb rest) low) tt) high,
+      omega arith,
+    )
 
 -- what the test for a whole number compares
 cut-value : (n : ℕ) (d : ℤ) → n * up d / down d ≤ 2097151 → HasValue (trunc binary64 (fin false n d)) false (n * up d / down d) 1
@@ -284,9 +284,10 @@ whole-ticks (fin s m e) f r h t = found (past-zero s m e f r h)
         let b : v ≤ 2097151 = part-in-range (n * up d) v (down d) (down e) (m * up e * 4) (down-pos e) (y .size) (r .0) refl in
         let a : m * up e * 4 ≡ v * down e = eq-sound (trunc binary64 (fin false n d)) (fin false n d) v false (m * up e * 4) (down e) (cut-value n d b) (refl, y .size) (subst (λ (z : Float). T (eq (trunc binary64 z) z)) (y .is) t) in
         let u : n * up d ≡ v * down d = eq-of-mul-eq-mul-right (down e) (down-pos e) (n * up d) (v * down d) (y .size ∙ ap (λ (z : ℕ). z * down d) a ∙ mul-right-comm v (down e) (down d)) in
-        let k = cast-takes n d v u b in
-        (subst (λ (z : Float). T (inUnsigned binary64 32 z)) (sym (y .is)) (k .0),
-         subst (λ (z : ℕ). IsTicks (fin s m e) z) (sym (k .1) ∙ ap (toUnsigned 32) (sym (y .is))) (a, inl plus, b))
+        let k = cast-takes n d v u b in (
+          subst (λ (z : Float). T (inUnsigned binary64 32 z)) (sym (y .is)) (k .0),
+          subst (λ (z : ℕ). IsTicks (fin s m e) z) (sym (k .1) ∙ ap (toUnsigned 32) (sym (y .is))) (a, inl plus, b),
+        )
 
 -- hours that are ticks pass the test
 ticks-whole : (x : Float) (t : ℕ) → T (fits binary64 x) → IsTicks x t → (T (eq (mul binary64 x four) none) → ⊥) → T (eq (trunc binary64 (mul binary64 x four)) (mul binary64 x four))

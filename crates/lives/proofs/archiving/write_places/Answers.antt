@@ -33,7 +33,7 @@ returns c =
     record {
       answer = ap Ok size ∙ sym (cond-true _ _ _ enough);
       after =
-        finished ws (c .loop-i .words) (c .word .result) (c .word-2 .result) ps (c .loop-i .i) (c .check-word .result) (omega arith) (omega arith) (c .loop-i .inv) (c .check-word .ensures)
-        ∙ ap (λ n. archive-of (map plain ps) ++ drop n ws) size
-        ∙ sym (cond-true _ _ _ enough);
+          finished ws (c .loop-i .words) (c .word .result) (c .word-2 .result) ps (c .loop-i .i) (c .check-word .result) (omega arith) (omega arith) (c .loop-i .inv) (c .check-word .ensures)
+          ∙ ap (λ n. archive-of (map plain ps) ++ drop n ws) size
+          ∙ sym (cond-true _ _ _ enough);
     }

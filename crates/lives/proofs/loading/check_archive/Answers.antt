@@ -24,7 +24,7 @@ returns-then-check-word-words c =
     let z : length ws - 1 - 0 ≡ length ws - 1 = omega arith in
     decoded ws _ (sym (c .in-Continue-count .ensures tt))
     ∙ checked-off ws (places-from (c .in-Continue-count .count) 2 ws) (c .in-rest .ensures tt)
-      (λ h. c .if-check-word-words .taken (c .check-word .ensures ∙ ap (λ k. check-of (take k ws)) z ∙ h))
+    (λ h. c .if-check-word-words .taken (c .check-word .ensures ∙ ap (λ k. check-of (take k ws)) z ∙ h))
 
 pub returns : need.returns
 returns c =

@@ -21,8 +21,9 @@ loop-i-again c =
     let p = c .in-Ok .place in
     let inv = c .loop-i .inv in
     let long : i + 1 ≤ length m = omega arith in
-    let grown : map plain (take (i + 1) (set m i p)) ≡ map plain (take i m) ++ plain p ∷ [] = ap (map plain) (take-more-set m i p (omega arith)) ∙ map-push plain (take i m) p in
-    (inv .0 ∙ turn-prefix (c .args .count) i (c .args .words .now) (plain p) _ _ (omega arith) (c .in-Ok .ensures tt .reads) grown,
-     drop-set-lt (c .args .count) m i p (omega arith) ∙ inv .1,
-     simp length-set (inv .2),
-     inv .3)
+    let grown : map plain (take (i + 1) (set m i p)) ≡ map plain (take i m) ++ plain p ∷ [] = ap (map plain) (take-more-set m i p (omega arith)) ∙ map-push plain (take i m) p in (
+      inv .0 ∙ turn-prefix (c .args .count) i (c .args .words .now) (plain p) _ _ (omega arith) (c .in-Ok .ensures tt .reads) grown,
+      drop-set-lt (c .args .count) m i p (omega arith) ∙ inv .1,
+      simp length-set (inv .2),
+      inv .3,
+    )

@@ -1,0 +1,4 @@
+pub mod Laws
+pub mod MaxMin
+pub mod Stacks
+pub mod Theorems

@@ -1,0 +1,5 @@
+mod Ends
+mod Grammar
+mod Pairs
+mod Parting
+mod Reading

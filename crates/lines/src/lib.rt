@@ -1,0 +1,3 @@
+// Lines of text: the fields of a line, and numbers as a ledger writes them.
+pub mod fields;
+pub mod numbers;

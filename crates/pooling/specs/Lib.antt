@@ -1,0 +1,5 @@
+pub mod Ratios
+pub mod Kinds
+pub mod Pooling
+pub mod Scores
+pub mod Turns

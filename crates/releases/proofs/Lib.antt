@@ -1,0 +1,5 @@
+mod Notes
+mod Gathered
+mod Written
+mod Summed
+mod Fitted

@@ -1,0 +1,5 @@
+pub mod Questions
+pub mod Ages
+pub mod Lives
+pub mod Benches
+pub mod Bounds

@@ -1,0 +1,11 @@
+pub mod Ticks
+pub mod Counts
+pub mod Ages
+pub mod Tallies
+pub mod Questions
+pub mod Studies
+pub mod StudyLaws
+pub mod Benches
+pub mod BenchLaws
+pub mod Bounds
+pub mod Gaps
