@@ -1,13 +1,13 @@
 -- The list of failure ages: one more at the next failure age, none where there are no failures.
-use mathlib.Core.Path.{_≡_, refl, sym, ap, ap₂, subst, _∙_}
+use mathlib.Core.Path.{_≡_, refl, sym, ap, subst, _∙_}
 use mathlib.Core.Bool.{cond}
 use mathlib.Core.List.{List, [], _∷_, _++_}
 use Prim.Native.Nat.{ℕ, zero, suc, _+_, _-_, _≤_, _<_}
 use native.Mathlib.Nat.{add-zero, add-suc}
 use native.Mathlib.Omega.{arith}
 use lib.Dec.{ltb}
-use lib.ListN.{length, length-append}
-use Rattle.std.proofs.shelf.Lists.{append-nil, length-push}
+use lib.ListN.{length, length-append, take, drop, set}
+use Rattle.std.proofs.shelf.Lists.{append-nil, length-push, take-more-set, drop-set-lt, drop-drop}
 use Rattle.std.proofs.shelf.Tests.{lt-ltb, le-ltb, cond-true, cond-false}
 use Rattle.sources.specs.Ticks.{upto}
 use Rattle.sources.specs.Ages.{ages, latest}
@@ -89,7 +89,16 @@ unfolding gaps
 gaps-flat n f a b h q = ap (gaps-from n f 0) (ages-flat f a b h q)
 
 -- the next gap runs from a failure age, or from 0, to the next
-pub gaps-hop : (n f : ℕ → ℕ) (a t : ℕ) → a < t → 0 < f t → a ≡ latest f a → ((u : ℕ) → a < u → u < t → f u ≡ 0) → gaps n f t ≡ gaps n f a ++ (gap n f a t ∷ [])
+gaps-hop : (n f : ℕ → ℕ) (a t : ℕ) → a < t → 0 < f t → a ≡ latest f a → ((u : ℕ) → a < u → u < t → f u ≡ 0) → gaps n f t ≡ gaps n f a ++ (gap n f a t ∷ [])
 unfolding gaps
 gaps-hop n f a t h p l q =
     ap (gaps-from n f 0) (ages-hop f a t h p q) ∙ gaps-push n f 0 (ages f a) t ∙ ap (λ x. gaps-from n f 0 (ages f a) ++ (gap n f x t ∷ [])) (final-ages f a ∙ sym l)
+
+-- one gap more is written at the place k
+pub gaps-written : (n f : ℕ → ℕ) (a t k : ℕ) (m : List Gap) (v : Gap) → k < length m → take k m ≡ gaps n f a → v ≡ gap n f a t
+    → a < t → 0 < f t → a ≡ latest f a → ((u : ℕ) → a < u → u < t → f u ≡ 0) → take (k + 1) (set m k v) ≡ gaps n f t
+gaps-written n f a t k m v h e w b p l q =
+    take-more-set m k v h ∙ ap (λ x. x ++ (v ∷ [])) e ∙ ap (λ x. gaps n f a ++ (x ∷ [])) w ∙ sym (gaps-hop n f a t b p l q)
+
+pub rest-stays : (k : ℕ) (m m′ : List Gap) (v : Gap) → drop k m ≡ drop k m′ → drop (k + 1) (set m k v) ≡ drop (k + 1) m′
+rest-stays k m m′ v e = drop-set-lt (k + 1) m k v (omega arith) ∙ sym (drop-drop 1 k m) ∙ ap (drop 1) e ∙ drop-drop 1 k m′

@@ -1,13 +1,13 @@
 -- What the questions of a bench run answer, over its data.
 use mathlib.Core.Path.{_≡_, refl, sym, ap, subst, _∙_}
 use mathlib.Core.Logic.{inl, inr}
-use mathlib.Core.Bool.{true, false, cond}
+use mathlib.Core.Bool.{Bool, true, false, cond, _&&_}
 use mathlib.Core.List.{List, [], _∷_, map}
 use Prim.Native.Nat.{ℕ, zero, suc, _+_, _-_, _*_, min, _≤_, _<_}
 use native.Mathlib.Nat.{mul-suc, mul-sub, mul-zero, mul-le-mul-left}
 use native.Mathlib.Omega.{arith}
 use denote.Ref.{now}
-use lib.Dec.{eqb}
+use lib.Dec.{leb, eqb}
 use lib.ListN.{length, getD, drop}
 use Rattle.std.proofs.shelf.Lists.{at-drop-more, at-drop-all, length-map}
 use Rattle.std.proofs.shelf.Tests.{cases-lt}
@@ -34,6 +34,19 @@ ages-more F xs i h = at-drop-more (λ ys. F (map age-ticks ys)) xs i no-age h
 
 pub ages-none : {Y : Type 0} (F : List ℕ → Y) (xs : List Age) (i : ℕ) → length xs ≤ i → F (map age-ticks (drop i xs)) ≡ F []
 ages-none F xs i h = at-drop-all (λ ys. F (map age-ticks ys)) xs i h
+
+-- the order of what is left, past an age within its limits, and where an age is not
+pub order-on : (lo hi : ℕ) (xs : List Age) (i : ℕ) (b : Bool) → i < length xs → in-order lo hi (map age-ticks (drop i xs)) ≡ b
+    → (let x = getD xs i no-age .0 in true ≡ (leb lo x && leb x hi) → in-order x hi (map age-ticks (drop (i + 1) xs)) ≡ b)
+order-on lo hi xs i b h e w =
+    let x = getD xs i no-age .0 in
+    ap (λ v. v && in-order x hi (map age-ticks (drop (i + 1) xs))) w ∙ sym (ages-more (in-order lo hi) xs i h) ∙ e
+
+pub order-off : (lo hi : ℕ) (xs : List Age) (i : ℕ) (b : Bool) → i < length xs → in-order lo hi (map age-ticks (drop i xs)) ≡ b
+    → (let x = getD xs i no-age .0 in false ≡ (leb lo x && leb x hi) → false ≡ b)
+order-off lo hi xs i b h e w =
+    let x = getD xs i no-age .0 in
+    ap (λ v. v && in-order x hi (map age-ticks (drop (i + 1) xs))) w ∙ sym (ages-more (in-order lo hi) xs i h) ∙ e
 
 -- ---- the last of the ages
 

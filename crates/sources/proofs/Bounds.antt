@@ -1,8 +1,8 @@
 -- What a bound is.
-use mathlib.Core.Path.{_≡_, refl, subst}
+use mathlib.Core.Path.{_≡_, refl, ap, subst, _∙_}
 use mathlib.Core.Bool.{Bool, true, false, cond, not}
 use mathlib.Core.Logic.{inl, inr}
-use Prim.Native.Nat.{ℕ, suc, _+_, _-_, _*_, _/_, _%_, _≤_, _<_}
+use Prim.Native.Nat.{ℕ, suc, _+_, _-_, _<_}
 use native.Mathlib.Nat.{div-add-mod', mod-lt, mul-le-mul-right, suc-mul}
 use native.Mathlib.Omega.{arith}
 use lib.Dec.{ltb, eqb}
@@ -11,10 +11,10 @@ use Rattle.std.specs.declared.result.Result.{Result}
 use Rattle.std.specs.declared.result.Result.the-variants.{Ok, Err}
 use Rattle.std.proofs.shelf.Tests.{cases-lt, eqb-false}
 use Rattle.units.specs.Hours.{last-tick}
-use Rattle.units.specs.Refusals.{Refused, refused, answer}
+use Rattle.units.specs.Refusals.{refused, answer}
 use Rattle.units.specs.declared.refusals.Refusal.{Refusal}
 use Rattle.sources.specs.Counts.{Lawful}
-use Rattle.sources.specs.Ticks.{upto, whole}
+use Rattle.sources.specs.Ticks.{whole}
 use Rattle.sources.specs.Tallies.{upto-zero, upto-below}
 use Rattle.sources.specs.Bounds.{LeastNotBelow, rounded-up, bound-numerator, bound-denominator, percentile, bound-by, most-bound-failures}
 use Rattle.sources.specs.declared.bound.Confidence.{Confidence}
@@ -35,6 +35,10 @@ rounded-least a b h =
         | inr l ↦ l
       ];
     }
+
+-- the bound of what equals the failures, the last failure age and the total
+pub bound-same : (c : Confidence) (k l s t k′ l′ t′ : ℕ) → k ≡ k′ → l ≡ l′ → t ≡ t′ → (r : Result ℕ Refusal) → answer r ≡ bound-by c k l s t → answer r ≡ bound-by c k′ l′ s t′
+bound-same c k l s t k′ l′ t′ p q r a e = e ∙ ap (λ x. bound-by c x l s t) p ∙ ap (λ x. bound-by c k′ x s t) q ∙ ap (λ x. bound-by c k′ l′ s x) r
 
 -- an answer past the three refusals
 answered : (z u v : Bool) (w q : ℕ) → Ok q ≡ cond z (Err (refused 12)) (cond u (Err (refused 14)) (cond v (Err (refused 15)) (Ok w))) → (z ≡ false) × (w ≡ q)

@@ -1,6 +1,6 @@
 -- The answers of the questions in words, and how those of two counts make that of their sum.
 use mathlib.Core.Path.{_≡_, refl, sym, ap, subst, _∙_}
-use mathlib.Core.Bool.{Bool, true, false, cond}
+use mathlib.Core.Bool.{cond}
 use mathlib.Core.Logic.{inl, inr}
 use Prim.Native.Nat.{ℕ, zero, suc, _+_, _-_, min, max, _≤_, _<_}
 use native.Mathlib.Omega.{arith}
@@ -14,7 +14,7 @@ use Rattle.sources.specs.Ticks.{upto, between}
 use Rattle.sources.specs.Counts.{Lawful}
 use Rattle.sources.specs.Ages.{latest, oldest, first-failure, next-failure}
 use Rattle.sources.specs.Questions.{Next, NextUpTo, Oldest, sooner, Questions-stand}
-use Rattle.sources.specs.Tallies.{flat, upto-le, in-limit}
+use Rattle.sources.specs.Tallies.{flat, upto-le}
 
 -- ---- the next failure age
 

@@ -4,7 +4,6 @@ use mathlib.Core.List.{List, [], _∷_}
 use Prim.Native.Nat.{ℕ, _+_, _-_, _*_, _/_, _≤_}
 use lib.Dec.{ltb, eqb}
 use lib.ListN.{getD}
-use Rattle.std.specs.Results.{Cases}
 use Rattle.std.specs.declared.result.Result.{Result}
 use Rattle.std.specs.declared.result.Result.the-variants.{Ok, Err}
 use Rattle.units.specs.Hours.{last-tick}
@@ -36,12 +35,19 @@ pub record LeastNotBelow (a b q : ℕ) : Type 0 where
   pub not-below : a ≤ q * b
   pub least : (p : ℕ) → a ≤ p * b → q ≤ p
 
--- Per million unit-ticks, percentile / (2 x total time on test), the percentile in thousandths: its numerator and denominator.
+-- a bound is per million unit-ticks, and a percentile in thousandths
+abbrev pub ticks-of-bound : ℕ
+ticks-of-bound = 1000000
+
+abbrev pub parts-of-percentile : ℕ
+parts-of-percentile = 1000
+
+-- percentile / (2 x total time on test) as a quotient of whole numbers
 abbrev pub bound-numerator : ℕ → ℕ
-bound-numerator thousandths = thousandths * 1000000
+bound-numerator thousandths = thousandths * ticks-of-bound
 
 abbrev pub bound-denominator : ℕ → ℕ
-bound-denominator total = 2 * total * 1000
+bound-denominator total = 2 * total * parts-of-percentile
 
 -- The bound, or the first reason that there is none: 12 where there is no failure,
 -- 14 where the run was not stopped at its last failure, 15 where there are over ten failures.

@@ -1,5 +1,5 @@
 -- Lemmas on sums by ticks, on which the laws of each source rest.
-use mathlib.Core.Path.{_≡_, refl, sym, ap, subst, _∙_}
+use mathlib.Core.Path.{_≡_, refl, subst, _∙_}
 use mathlib.Core.Logic.{_⊎_, inl, inr}
 use mathlib.Core.Bool.{cond}
 use Prim.Native.Nat.{ℕ, zero, suc, _+_, _-_, _*_, min, _≤_, _<_}
@@ -8,7 +8,7 @@ use native.Mathlib.Omega.{arith}
 use lib.Dec.{eqb}
 use Rattle.std.proofs.shelf.Tests.{cases-lt, cases-eq, eq-eqb, ne-eqb, cond-true, cond-false}
 use Rattle.units.specs.Hours.{last-tick}
-use Rattle.sources.specs.Ticks.{upto, between}
+use Rattle.sources.specs.Ticks.{upto}
 use Rattle.sources.specs.Counts.{Lawful, most-failures, most-in-all}
 
 -- nothing of f from a to a + k: what steps by f stays
@@ -43,17 +43,12 @@ pub upto-hop : (f : ℕ → ℕ) (a t : ℕ) → a < t → ((u : ℕ) → a < u 
 upto-hop f a zero h q = omega arith
 upto-hop f a (suc m) h q = rw (upto-suc f m, upto-flat f a m (omega arith) (λ u l n. q u l (omega arith)))
 
-pub upto-mono : (f : ℕ → ℕ) (a k : ℕ) → upto f a ≤ upto f (a + k)
+upto-mono : (f : ℕ → ℕ) (a k : ℕ) → upto f a ≤ upto f (a + k)
 upto-mono f a zero = rw add-zero (omega arith)
 upto-mono f a (suc k) = rw add-suc (omega (arith, upto-suc f (a + k), upto-mono f a k))
 
 pub upto-le : (f : ℕ → ℕ) (a b : ℕ) → a ≤ b → upto f a ≤ upto f b
 upto-le f a b h = let e : a + (b - a) ≡ b = omega arith in subst (λ n. upto f a ≤ upto f n) e (upto-mono f a (b - a))
-
--- one value is at most the sum
-pub one-le : (f : ℕ → ℕ) (t : ℕ) → 0 < t → f t ≤ upto f t
-one-le f zero h = omega arith
-one-le f (suc m) h = omega (arith, upto-suc f m)
 
 -- the sum of two counts
 pub upto-add : (f g : ℕ → ℕ) (n : ℕ) → upto (λ t. f t + g t) n ≡ upto f n + upto g n
@@ -70,7 +65,7 @@ upto-void f e zero = upto-zero f
 upto-void f e (suc n) = omega (arith, upto-suc f n, e (suc n), upto-void f e n)
 
 -- at most 1,024 at each tick up to the last
-pub upto-cap : (n : ℕ → ℕ) → ((t : ℕ) → n t ≤ most-failures) → ((t : ℕ) → last-tick < t → n t ≡ 0) → (m : ℕ) → upto n m ≤ min m last-tick * most-failures
+upto-cap : (n : ℕ → ℕ) → ((t : ℕ) → n t ≤ most-failures) → ((t : ℕ) → last-tick < t → n t ≡ 0) → (m : ℕ) → upto n m ≤ min m last-tick * most-failures
 upto-cap n cap ends zero = omega (arith, upto-zero n)
 upto-cap n cap ends (suc m) =
     elim (cases-lt last-tick (suc m)) [
@@ -92,22 +87,7 @@ void-laws n f a b = record {
   limited = λ t. omega (arith, upto-void f b t, upto-void n a t);
 }
 
--- a failure age lies within the limit
-pub in-limit : (n f : ℕ → ℕ) → Lawful n f → (t : ℕ) → 0 < f t → t ≤ last-tick
-in-limit n f laws t p = elim (cases-lt last-tick t) [ inl h ↦ omega (arith, laws .within t, laws .ends t h) | inr h ↦ h ]
-
--- past the last tick nothing is added
-pub upto-past : (f : ℕ → ℕ) → ((t : ℕ) → last-tick < t → f t ≡ 0) → (m : ℕ) → upto f m ≤ upto f last-tick
-upto-past f ends m = elim (cases-lt last-tick m) [
-  | inl h ↦ omega (arith, upto-flat f last-tick m (omega arith) (λ u l _. ends u l))
-  | inr h ↦ upto-le f m last-tick h
-]
-
--- no tick has more failures than there are in all
-pub one-few : (n f : ℕ → ℕ) → Lawful n f → (t : ℕ) → f t ≤ most-failures
-one-few n f laws zero = omega (arith, laws .within 0, laws .starts)
-one-few n f laws (suc t) = omega (arith, one-le f (suc t) (omega arith), laws .few (suc t))
-
+-- the sum of the lower of two counts
 pub upto-below : (f g : ℕ → ℕ) → ((t : ℕ) → f t ≤ g t) → (n : ℕ) → upto f n ≤ upto g n
 upto-below f g le zero = omega (arith, upto-zero f, upto-zero g)
 upto-below f g le (suc n) = omega (arith, upto-suc f n, upto-suc g n, le (suc n), upto-below f g le n)

@@ -22,7 +22,12 @@ pub enum Confidence {
 
 const MOST_FAILURES: usize = 10;
 
-// The percentiles in thousandths, for 1 to 10 failures.
+// A bound is per million unit-ticks, and a percentile in thousandths.
+const TICKS_OF_BOUND: u64 = 1_000_000;
+
+const PARTS_OF_PERCENTILE: u64 = 1_000;
+
+// The percentiles for 1 to 10 failures.
 const PERCENTILES_95: [u32; 10] = [
     5991,
     9488,
@@ -117,7 +122,7 @@ fn per_million(thousandths: u32, total: Exposure) -> u64
     requires { ⌜ 0 < total .0 ⌝ }
     ensures { λ r. ⌜ r ≡ rounded-up (bound-numerator thousandths) (bound-denominator (total .0)) ⌝ }
 {
-    let numerator = thousandths as u64 * 1_000_000;
-    let denominator = 2 * total.0 as u64 * 1_000;
+    let numerator = thousandths as u64 * TICKS_OF_BOUND;
+    let denominator = 2 * total.0 as u64 * PARTS_OF_PERCENTILE;
     (numerator + (denominator - 1)) / denominator
 }

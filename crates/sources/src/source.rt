@@ -1,6 +1,5 @@
 // The trait of four questions, by what a source means.
 ghost use mathlib.Core.Path.{_≡_};
-ghost use Prim.Native.Nat.{ℕ};
 ghost use Rattle.sources.specs.Ages.{next-failure, oldest};
 ghost use Rattle.sources.specs.Counts.{Counts, Lawful};
 ghost use Rattle.sources.specs.Questions.{Questions-stand};

@@ -3,8 +3,13 @@ use crate::BenchSource;
 use crate::Confidence;
 use crate::Gap;
 use crate::Source;
+use crate::StudySource;
+use crate::count_failure_ages;
 use crate::list_gaps;
 use crate::total_time_on_test;
+use lives::OpenStudy;
+use lives::Place;
+use lives::UncheckedLife;
 use std::test::*;
 use units::Age;
 use units::Exposure;
@@ -38,10 +43,7 @@ fn stopped_at_the_last_failure() -> Result<(), Fail> {
         list_gaps(&bench, bench.oldest_age(), &mut gaps).is_ok(),
         true,
     )?;
-    check_eq(
-        gaps[0].exposure.0 + gaps[1].exposure.0 + gaps[2].exposure.0,
-        101,
-    )?;
+    check_eq(bench.exposure_between(Age(0), Age(11)).0, 101)?;
     check_eq(gaps[3].exposure.0, 49)?;
     check_eq(gaps[5].exposure.0, 55)
 }
@@ -56,4 +58,30 @@ fn stopped_later() -> Result<(), Fail> {
     let void = BenchRun::new(10, &AGES, Age(30));
     check_eq(void.check().is_ok(), false)?;
     check_eq(told(void.bound(Confidence::Percent95)), (0, 12))
+}
+
+fn life(exit: u32, status: u32) -> UncheckedLife {
+    UncheckedLife {
+        serial: 1000,
+        entry: 0,
+        exit,
+        status,
+    }
+}
+
+#[test]
+fn study_with_a_struck_life() -> Result<(), Fail> {
+    let mut memory = [Place::blank(); 6];
+    let mut study = OpenStudy::open(&mut memory);
+    check_eq(study.enter(life(1, 0)).is_ok(), true)?;
+    check_eq(study.enter(life(7, 0)).is_ok(), true)?;
+    check_eq(study.enter(life(8, 1)).is_ok(), true)?;
+    check_eq(study.enter(life(9, 0)).is_ok(), true)?;
+    check_eq(study.strike(3).is_ok(), true)?;
+    let sealed = study.seal();
+    check_eq(total_time_on_test(&sealed).0, 16)?;
+    check_eq(count_failure_ages(&sealed, Age(9)), 2)?;
+    check_eq(sealed.failures_at(Age(7)), 1)?;
+    check_eq(sealed.exposure_between(Age(1), Age(7)).0, 12)?;
+    check_eq(sealed.oldest_age().0, 8)
 }

@@ -1,5 +1,5 @@
 use mathlib.Core.Path.{_≡_, sym, _∙_}
-use Prim.Native.Nat.{ℕ, _+_, _≤_}
+use Prim.Native.Nat.{_+_}
 use native.Mathlib.Omega.{arith}
 use Rattle.sources.specs.Ticks.{upto}
 use Rattle.sources.specs.Tallies.{upto-zero, upto-hop, upto-flat}

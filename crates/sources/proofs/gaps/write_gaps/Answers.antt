@@ -1,12 +1,12 @@
 use mathlib.Core.Path.{_≡_, refl, sym, ap, ap₂, _∙_}
-use mathlib.Core.List.{[], _∷_, _++_}
-use Prim.Native.Nat.{ℕ, _+_, _<_, _≤_}
+use mathlib.Core.List.{_++_}
+use Prim.Native.Nat.{_+_, _<_, _≤_}
 use native.Mathlib.Omega.{arith}
-use lib.ListN.{length, take, drop}
-use Rattle.std.proofs.shelf.Lists.{take-more-set, drop-set-lt, drop-drop, take-append-drop}
+use lib.ListN.{length, drop}
+use Rattle.std.proofs.shelf.Lists.{take-append-drop}
 use Rattle.sources.specs.Ages.{ages}
-use Rattle.sources.specs.Gaps.{gap, gaps}
-use Rattle.sources.proofs.Ages.{ages-zero, ages-flat, ages-few, ages-rise, count-hop, gaps-zero, gaps-flat, gaps-hop}
+use Rattle.sources.specs.Counts.{most-failures}
+use Rattle.sources.proofs.Ages.{ages-zero, ages-flat, ages-few, ages-rise, count-hop, gaps-zero, gaps-flat, gaps-written, rest-stays}
 use Rattle.sources.proofs.Questions.{latest-zero, latest-here}
 use Rattle.sources.proofs.gaps.write_gaps.Given as given
 use Rattle.sources.proofs.gaps.write_gaps.Needs as need
@@ -26,7 +26,7 @@ counted g c =
 room : (g : given.Over) (c : need.After-gap-between g) → c .loop-next .count < length (c .loop-next .memory)
 room g c = omega (arith, ages-rise (g .S·Source .counts (c .args .source .now) .failed) (c .in-Some .next .0) (c .args .last .0) (c .in-Some .ensures tt .1), counted g c, c .pre, c .loop-next .kept .memory)
 
-few : (g : given.Over) (c : need.After-gap-between g) → c .loop-next .count + 1 ≤ 1024
+few : (g : given.Over) (c : need.After-gap-between g) → c .loop-next .count + 1 ≤ most-failures
 few g c =
     let s = c .args .source .now in
     omega (arith, counted g c, ages-few (g .S·Source .counts s .failed) (c .in-Some .next .0), g .S·Source .laws s .few (c .in-Some .next .0))
@@ -51,9 +51,8 @@ loop-next-again g c =
     let t = c .in-Some .next .0 in
     let k = c .loop-next .count in
     let e = c .in-Some .ensures tt in
-    let v = c .gap-between .result in
-    let front = take-more-set (c .loop-next .memory) k v (room g c) ∙ ap (λ x. x ++ (v ∷ [])) (c .loop-next .inv .3) ∙ ap (λ x. gaps n f a ++ (x ∷ [])) (c .gap-between .ensures) ∙ sym (gaps-hop n f a t (e .0) (e .2) (c .loop-next .inv .2) (e .3)) in
-    let back = drop-set-lt (k + 1) (c .loop-next .memory) k v (omega arith) ∙ sym (drop-drop 1 k (c .loop-next .memory)) ∙ ap (drop 1) (c .loop-next .inv .4) ∙ drop-drop 1 k (c .args .memory .now) in
+    let front = gaps-written n f a t k (c .loop-next .memory) (c .gap-between .result) (room g c) (c .loop-next .inv .3) (c .gap-between .ensures) (e .0) (e .2) (c .loop-next .inv .2) (e .3) in
+    let back = rest-stays k (c .loop-next .memory) (c .args .memory .now) (c .gap-between .result) (c .loop-next .inv .4) in
     (counted g c, e .1, sym (latest-here f t (omega (arith, e .0)) (e .2)), front, back)
 
 pub returns : need.returns

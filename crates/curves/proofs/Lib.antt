@@ -1,0 +1,10 @@
+mod Solids
+mod Parts
+pub mod Listed
+mod Sides
+mod Likely
+mod Turns
+pub mod Best
+pub mod Faultless
+mod Values
+pub mod Steps

@@ -1,0 +1,5 @@
+pub mod Pieces
+pub mod Curves
+pub mod Rivals
+pub mod Faults
+pub mod Theorems
