@@ -16,6 +16,7 @@ use Rattle.arith.specs.Sums.{total, product}
 use Rattle.arith.proofs.Powers.{mul-pow}
 use Rattle.arith.proofs.Scores.{scores-tell-products}
 use Rattle.arith.proofs.Sums.{product-append, product-pos}
+use Rattle.isotonic.specs.Laws.{limit}
 use Rattle.sources.specs.Ages.{oldest}
 use Rattle.sources.specs.Counts.{Counts, Lawful}
 use Rattle.sources.specs.Tallies.{upto-zero, upto-suc, upto-le}
@@ -60,7 +61,7 @@ module _ (c : Counts) (shape : Shape) (laws : Lawful (c .watched) (c .failed)) w
     last = let g = listed-last (c .failed) 0 (last-counted c shape) end xs listed in omega (arith, last-le c shape);
   }
 
-  light : total (c .failed) xs + upto (c .watched) end ≤ 2147483648
+  light : total (c .failed) xs + upto (c .watched) end ≤ limit
   light = omega (arith, ages-total (c .failed) (last-counted c shape), upto-le (c .failed) (last-counted c shape) end (last-le c shape), laws .limited end)
 
   -- where failures are set aside, the last gap is not empty, and its last tick is watched
@@ -85,6 +86,15 @@ sound-at c UShaped laws j a =
 
 pub pieces-stand : (c : Counts) (shape : Shape) (j : ℕ) → Pieces-stand c shape j
 pieces-stand c shape j laws a = let s = sound-at c shape laws j a in (s .left, s .right)
+
+-- the curve's own turning gap is allowed
+own-allowed : (c : Counts) (shape : Shape) → Allowed shape (length (counted-ages c shape)) (turning c shape)
+own-allowed c Falling = refl
+own-allowed c Rising = refl
+own-allowed c UShaped = best-allowed (score-of c UShaped) (length (counted-ages c UShaped))
+
+own-sound : (c : Counts) (shape : Shape) → Lawful (c .watched) (c .failed) → Sound (c .watched) (c .failed) (counted-ages c shape) (oldest (c .watched)) (turning c shape)
+own-sound c shape laws = sound-at c shape laws (turning c shape) (own-allowed c shape)
 
 -- ---- no better rival
 
@@ -163,7 +173,7 @@ not-far-better c laws r few =
     let i = r .turning-gap in
     let j = turning c UShaped in
     let si = sound-at c UShaped laws i (r .allowed) in
-    let sj = sound-at c UShaped laws j (best-allowed (score-of c UShaped) (length xs)) in
+    let sj = own-sound c UShaped laws in
     subst (At-most-times (2 ^ counted-failures c UShaped) (telling-power squarings) (product-of r)) (sym (product-both n f xs end j))
     (combined (2 ^ counted-failures c UShaped) (telling-power squarings) (product-of r) (fit-product (both n f xs end i)) (fit-product (both n f xs end j))
     (denominator-some (both n f xs end i) (both-scorable n f xs end i si))
@@ -181,15 +191,7 @@ none-lost c Falling laws = omega (arith, whole-failed (c .watched) (c .failed) l
 none-lost c Rising laws = last-apart (c .watched) (c .failed) laws (oldest (c .watched)) ∙ whole-failed (c .watched) (c .failed) laws
 none-lost c UShaped laws = last-apart (c .watched) (c .failed) laws (oldest (c .watched)) ∙ whole-failed (c .watched) (c .failed) laws
 
--- ---- the curve's own turning gap
-
-pub own-allowed : (c : Counts) (shape : Shape) → Allowed shape (length (counted-ages c shape)) (turning c shape)
-own-allowed c Falling = refl
-own-allowed c Rising = refl
-own-allowed c UShaped = best-allowed (score-of c UShaped) (length (counted-ages c UShaped))
-
-own-sound : (c : Counts) (shape : Shape) → Lawful (c .watched) (c .failed) → Sound (c .watched) (c .failed) (counted-ages c shape) (oldest (c .watched)) (turning c shape)
-own-sound c shape laws = sound-at c shape laws (turning c shape) (own-allowed c shape)
+-- ---- all faults
 
 -- a falling or rising curve is not U-shaped
 abbrev One-way : Shape → Type 0
