@@ -23,7 +23,9 @@ use units::Exposure;
 
 // The memory that is lent at the start.
 const FIRST_WORDS: u32 = 4099;
+
 const FIRST_BLOCKS: u32 = 1024;
+
 const FIRST_STEPS: u32 = 1025;
 
 #[derive(Drop)]
@@ -53,7 +55,12 @@ impl Desk {
             Request::Note(note) => rt.println(self.note(note)),
             Request::Growth => self.growth(rt),
             Request::PoolRates(rates) => print_blocks(rt, rates.as_slice(), self.blocks, no_rate()),
-            Request::PoolShares(shares) => print_blocks(rt, shares.as_slice(), self.blocks, no_share()),
+            Request::PoolShares(shares) => print_blocks(
+                rt,
+                shares.as_slice(),
+                self.blocks,
+                no_share(),
+            ),
             Request::Bench(bench) => rt.println(self.take_bench(bench)),
             Request::Bound(confidence) => rt.println(self.bound(confidence)),
         }
@@ -146,7 +153,11 @@ fn no_share() -> Share {
     }
 }
 
-fn block_memory<K: Poolable>(heap: Global, room: u32, blank: K) -> Result<Vec<Block<K>>, AllocError> {
+fn block_memory<K: Poolable>(
+    heap: Global,
+    room: u32,
+    blank: K,
+) -> Result<Vec<Block<K>>, AllocError> {
     let mut blocks = Vec::new(heap);
     for _ in 0..room {
         blocks.push(Block {

@@ -49,7 +49,11 @@ pub enum Request {
 }
 
 // The request that a name and the fields after it are.
-pub fn parse_request(heap: Global, name: &[u8], fields: &[&[u8]]) -> Result<Option<Request>, AllocError> {
+pub fn parse_request(
+    heap: Global,
+    name: &[u8],
+    fields: &[&[u8]],
+) -> Result<Option<Request>, AllocError> {
     match name {
         b"room" => Ok(parse_room(fields)),
         b"note" => Ok(parse_note(fields)),

@@ -13,7 +13,7 @@ use units::Age;
 use units::Exposure;
 use units::Refusal;
 
-// With what probability the failure rate is below the bound.
+// The level of confidence of a bound.
 #[derive(Clone, Copy, PartialEq, Eq, Debug)]
 pub enum Confidence {
     Percent95,
