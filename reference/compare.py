@@ -3,16 +3,17 @@
 
     python3 reference/compare.py [LEDGERS [SEED]]
 
-It makes ledgers (sound lines, lines with errors, bytes that are no text, sound and damaged archives, long
-ledgers and long lines), gives each to target/bin/ledger (`rt check ledger` builds it) and to reference/ledger.py,
-and compares the answers byte for byte. It says how many it compared and which answers were met, and ends with
-status 1 where any differ.
+It makes ledgers (sound lines, lines with errors, bytes that are no text, sound and damaged archives, lists to
+pool, benches, release sheets, long ledgers and long lines), gives each to target/bin/ledger (`rt check ledger`
+builds it) and to reference/ledger.py, and compares the answers byte for byte. It says how many it compared and
+which answers were met, and ends with status 1 where any differ.
 """
 import pathlib
 import random
 import subprocess
 import sys
 from collections import Counter
+from fractions import Fraction
 
 import ledger
 
@@ -25,8 +26,14 @@ HOURS = """0 -0 0.0 -0.000 0.25 0.5 1 1.75 2 0.1 0.3 -0.25 524287.75 524287.5 52
 LONG_HOURS = ["0." + "0" * 400 + "1", "1" + "0" * 400, "0" * 5000 + ".25", "0.25" + "0" * 800 + "1", "9" * 309 + ".5"]
 WORDS = "FAILED WITHDRAWN RUNNING".split()
 OTHER_WORDS = "failed Failed FAILED. FAILE WITHDRAWNN LOST #".split()
-OTHER_LINES = """# comment|#|| , ,\t| # none|hello|bench 10 38 4 9|fit falling study|bound 95|note 1 4 10|growth|pool rates 1/2
-    |room steps 5|seal it|archive all|row|enter|strike|memory|room|room words|memory x|load 1|SEAL|row row 1 0 1 FAILED""".split("|")
+OTHER_LINES = """# comment|#|| , ,\t| # none|hello|seal it|archive all|row|enter|strike|memory|room|room words
+    |memory x|load 1|SEAL|row row 1 0 1 FAILED|pool|pool rate 1/2|pool 1/2|Pool rates 1/2|bench|bench 10
+    |bench 10 x|bench 10 5 -1|bench 4294967296 5|bound|bound 95 90|bound 80|bound 095|bound 95.0|note
+    |note 1 4|note 1 4 10 1|note 1 4 x|note 1 4 4294967296|growth 1|growths|room blocks|room steps x
+    |room block 5|room words 5 5|room work 5|fit falling study""".split("|")
+LIMIT = 2_147_483_648
+OTHER_PIECES = """1 / 1/ /1 1/2/3 1//2 1/0 0/0 5/4 -1/2 +1/2 1/-2 1.0/2 1/x 0x1/2 007/0008 1/4294967295 1/4294967296
+    4294967296/1 4294967295/1 4294967295/4294967295 2147483648/2147483648 0/2147483648 0/2147483649""".split()
 
 
 class Maker:
@@ -75,6 +82,74 @@ class Maker:
         case = rng.choice(["%08x", "%08X"])
         return "load " + " ".join(case % word for word in words)
 
+    def pieces(self, kind, length):
+        """A list of pieces, as pairs of numbers: ties, trends, or bulks that add up to about the limit."""
+        rng = self.rng
+        most = rng.choice([1, 3, 10, 1000, LIMIT // (3 * max(length, 1)), LIMIT // max(length, 1)])
+        pieces = []
+        for _ in range(length):
+            below = rng.randint(max(1, most - 3), most) if rng.random() < 0.2 else rng.randint(1, most)
+            above = rng.randint(0, rng.choice([below, min(below, 3)] + [most] * (kind == "rates")))
+            pieces.append((above, below))
+        change = rng.randrange(6)
+        if change == 0:  # rising, with some ties
+            pieces.sort(key=lambda piece: Fraction(*piece))
+        elif change == 1:  # falling: one block
+            pieces.sort(key=lambda piece: Fraction(*piece), reverse=True)
+        elif change == 2 and pieces:  # multiples of a few ratios
+            few = [(above % 4, below % 3 + 3) for above, below in pieces[:3]]
+            many = [(times * above, times * below) for above, below in few for times in (1, 2, 3, 5)]
+            pieces = rng.choices(many, k=length)
+        elif change == 3 and pieces:  # the bulks add up to the limit, or one less or more
+            bulk = sum(below + above * (kind == "rates") for above, below in pieces)
+            left = LIMIT + rng.choice([-1, 0, 0, 1]) - bulk
+            place = rng.randrange(length)
+            above, below = pieces[place]
+            pieces[place] = above, max(below + left, above, 1)
+        return pieces
+
+    def pool(self):
+        rng = self.rng
+        kind = rng.choice(["rates", "shares"])
+        length = rng.choice([0, 1, 2, 3, 5, 63, 64, 65, 66, rng.randrange(12), rng.randrange(12), rng.randrange(71)])
+        pieces = ["%d/%d" % piece for piece in self.pieces(kind, length)]
+        if rng.random() < 0.1:
+            pieces.insert(rng.randint(0, length), rng.choice(OTHER_PIECES))
+        return " ".join(["pool", kind] + pieces)
+
+    def bench(self):
+        """A bench, mostly sound, and the bounds of it."""
+        rng = self.rng
+        most = rng.choice([5, 40, 2_097_151])
+        ages = sorted(rng.randint(1, most) for _ in range(rng.randint(0, 12)))
+        stop = ages[-1] if ages and rng.random() < 0.7 else most
+        units = rng.choice([len(ages), len(ages) + 1, 12, 1024])
+        change = rng.randrange(16)
+        if change == 0:
+            units = rng.choice([0, 1, 5, 1025, 2**32 - 1])
+        elif change == 1:
+            stop = rng.choice([0, 1, 2_097_151, 2_097_152, 2**32 - 1])
+        elif change == 2:
+            rng.shuffle(ages)
+        elif change == 3:
+            ages.insert(rng.randint(0, len(ages)), rng.choice([0, 1, stop, stop + 1]))
+        lines = ["bench " + " ".join(map(str, [units, stop] + ages)), "bound 95", "bound 90"]
+        return "\n".join(lines[:rng.randint(1, 3)])
+
+    def notes(self):
+        """Some notes, and growth."""
+        rng = self.rng
+        lines = []
+        rows = rng.choice([range(1, 4), range(1, 65)])
+        most = rng.choice([1, 3, 10, 1000, 500_000, 1_000_000])
+        for _ in range(rng.choice([0, 1, 1, 3, 10, 80])):
+            trials = rng.randint(0, most)
+            note = [rng.choice(rows), rng.randint(0, trials), trials]
+            if rng.random() < 0.1:
+                note[rng.randrange(3)] = rng.choice([0, 1, 64, 65, 999_999, 1_000_000, 1_000_001, 2**32 - 1])
+            lines.append("note %d %d %d" % tuple(note))
+        return "\n".join(lines + ["growth"])
+
     def hours(self):
         rng = self.rng
         return rng.choice([
@@ -86,7 +161,7 @@ class Maker:
 
     def line(self):
         rng = self.rng
-        kind = rng.randrange(20)
+        kind = rng.randrange(31)
         if kind < 6:
             row = [rng.choice(SERIALS + [5] * 20), self.hours(), self.hours(), rng.choice(WORDS * 8 + OTHER_WORDS)]
             blank = rng.choice([" ", ",", "\t", ", ", " ,\t "])
@@ -108,6 +183,15 @@ class Maker:
             return "memory %d" % rng.choice([0, 1, 2, 3, 5, 20, 1024, 1025, 4096, 4097])
         if kind == 18:
             return "room words %d" % rng.choice([0, 2, 3, 7, 11, 50, 4099, 8192, 8193])
+        if kind == 19:
+            places = rng.choice([0, 1, 2, 5, 63, 64, 65, 1024, 1024, 1025, 8192, 8193])
+            return "room %s %d" % (rng.choice(["blocks", "steps"]), places)
+        if kind < 24:
+            return self.pool()
+        if kind < 27:
+            return self.bench()
+        if kind < 29:
+            return self.notes()
         return rng.choice(OTHER_LINES)
 
     def spoil(self, line):
@@ -145,14 +229,24 @@ def long_ledgers(rng):
     yield b"1 0 1 FAILED" + b" " * 3_000_000 + b"\n" + b"x" * 3_000_000 + b"\n" + b"\0" * 100_000 + b"\n\xff\xfe"
     yield b"enter " + b"0" * 100_000 + b"1 0 1 0\n" + b"load" + b" 00000000" * 100_000 + b"\nseal\narchive"
     yield bytes(rng.randrange(256) for _ in range(200_000))
+    for length in (1023, 1024, 1025):
+        for room in (1023, 1024, 1025, 8192):
+            pieces = " ".join("%d/%d" % piece for piece in maker.pieces("rates", length))
+            yield ("room blocks %d\npool rates %s\npool shares %s" % (room, pieces, "1/2 " * length)).encode()
+    for units in (1023, 1024, 1025):
+        ages = b" ".join(b"%d" % age for age in sorted(rng.randint(1, 2_097_151) for _ in range(1024)))
+        yield b"bench %d 2097151 %s\nbound 95\nbench %d 2097151 2097151\nbound 90\n" % (units, ages, units)
+    full = b"".join(b"note %d %d 1000000\nnote %d 0 1\n" % (row, rng.randint(0, 10**6), row) for row in range(66))
+    yield full + b"growth\nroom steps 63\ngrowth\nroom steps 64\ngrowth\n"
+    yield b"pool rates" + b" 1/1" * 100_000 + b"\nbench 9 9" + b" 9" * 100_000 + b"\nbound 90\n"
 
 
 def kind(answer):
-    """The kind of an answer: its first word, or the first two of a refusal and of `not ..`."""
-    words = answer.split()
+    """The kind of an answer: the first word of its last line, or the first two of a refusal and of `not ..`."""
+    words = answer.split("\n")[-1].split()
     if words[0] in ("refused", "not"):
         return " ".join(words[:2])
-    return "archive" if words[0] == "10000001" else words[0]
+    return "archive" if answer.startswith("10000001") else words[0]
 
 
 def proved(text):

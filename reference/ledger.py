@@ -198,14 +198,15 @@ def rising(pieces):
     values = [Fraction(-1)] * len(pieces)
     for a in range(len(pieces)):
         above, below, ratios = 0, 0, []
-        for piece in pieces[a:]:
-            above, below = above + piece[0], below + piece[1]
+        for more_above, more_below in pieces[a:]:
+            above, below = above + more_above, below + more_below
             ratios.append(Fraction(above, below))
+        least = ratios[-1]
         for i in reversed(range(a, len(pieces))):
-            least = ratios[i - a] if i == len(pieces) - 1 else min(least, ratios[i - a])
+            least = min(least, ratios[i - a])
             values[i] = max(values[i], least)
     blocks = []
-    for value, run in groupby(range(len(pieces)), lambda i: values[i]):
+    for _, run in groupby(range(len(pieces)), lambda i: values[i]):
         run = list(run)
         blocks.append((run[0], run[-1], sum(pieces[i][0] for i in run), sum(pieces[i][1] for i in run)))
     return blocks

@@ -6,7 +6,7 @@ use Prim.Native.Nat.{ℕ, suc, _-_, _≤_, _<_}
 use native.Mathlib.Omega.{arith}
 use lib.Count.{leadingZeros}
 use lib.Dec.{leb, ltb}
-use lib.IntN.{pos, negsuc}
+use lib.IntN.{pos, negℤ}
 use lib.ListN.{length}
 use Rattle.std.specs.Finite.{zipped}
 use Rattle.std.specs.shelf.Lists.{All}
@@ -44,7 +44,7 @@ use Rattle.curves.specs.Pieces.{left-pieces, right-pieces, trough-piece}
 use Rattle.curves.specs.Rivals.{Rival}
 use Rattle.curves.specs.declared.shapes.Shape.the-variants.{Falling, UShaped}
 use Rattle.curves.proofs.Listed.{whole-watched}
-use Rattle.cases.specs.Worked.{fitted, step, bench, five, four, one, noted, growth-step, old-steps, single-step, Cases}
+use Rattle.cases.specs.Worked.{fitted, bench, five, four, one, bench-curve, later-curve, five-curve, four-falling-curve, four-u-shaped-curve, one-curve, single-step, noted, growth-step, old-steps, Cases}
 
 -- a falling fit, by the oldest age and the total time on test
 falling-by : Counts → ℕ → ℕ → ℕ → Result Curve Refused
@@ -84,26 +84,12 @@ unfolding valid
 valid-50 = refl
 
 computed-38 : falling-by (bench-counts (bench 38)) 7 38 (upto (bench-watched (bench 38)) 38)
-    ≡ Ok (record {
-      steps = step 0 11 3 101 ∷ step 11 18 1 49 ∷ step 18 27 1 54 ∷ step 27 38 1 55 ∷ [];
-      turning-gap = 7;
-      score = negsuc 2121443;
-      counted = 6;
-      set-aside = 0;
-      time-on-test = 259;
-    })
+    ≡ Ok bench-curve
 unfolding falling-by ages upto valid bench-watched bench-failed rising-blocks falling-blocks bits scaled-log2 leadingZeros
 computed-38 = refl
 
 computed-50 : falling-by (bench-counts (bench 50)) 7 50 (upto (bench-watched (bench 50)) 50)
-    ≡ Ok (record {
-      steps = step 0 11 3 101 ∷ step 11 18 1 49 ∷ step 18 27 1 54 ∷ step 27 38 1 55 ∷ step 38 50 0 48 ∷ [];
-      turning-gap = 7;
-      score = negsuc 2121443;
-      counted = 6;
-      set-aside = 0;
-      time-on-test = 307;
-    })
+    ≡ Ok later-curve
 unfolding falling-by ages upto valid bench-watched bench-failed rising-blocks falling-blocks bits scaled-log2 leadingZeros
 computed-50 = refl
 
@@ -197,36 +183,22 @@ unfolding study-watched
 one-oldest = record { past = λ t l. rw (gone t 1 (omega arith)) refl; there = λ _. omega arith }
 
 five-computed : u-shaped-by (study-counts five) 5 8 (upto (study-watched five) 8)
-    ≡ Ok (record {
-      steps = step 0 2 2 9 ∷ step 2 6 0 12 ∷ step 6 7 1 2 ∷ step 7 8 1 1 ∷ [];
-      turning-gap = 3;
-      score = negsuc 349951;
-      counted = 4;
-      set-aside = 0;
-      time-on-test = 24;
-    })
+    ≡ Ok five-curve
 unfolding u-shaped-by ages upto best-gap study-watched study-failed rising-blocks falling-blocks bits scaled-log2 leadingZeros
 five-computed = refl
 
 four-computed : falling-by (study-counts four) 5 7 (upto (study-watched four) 7)
-    ≡ Ok (record { steps = step 0 2 2 7 ∷ step 2 7 2 9 ∷ []; turning-gap = 5; score = negsuc 521307; counted = 4; set-aside = 0; time-on-test = 16 })
+    ≡ Ok four-falling-curve
 unfolding falling-by ages upto study-watched study-failed rising-blocks falling-blocks bits scaled-log2 leadingZeros
 four-computed = refl
 
 four-turned : u-shaped-by (study-counts four) 4 7 (upto (study-watched four) 7)
-    ≡ Ok (record {
-      steps = step 0 2 2 7 ∷ step 2 6 0 8 ∷ step 6 7 1 1 ∷ [];
-      turning-gap = 3;
-      score = negsuc 236891;
-      counted = 3;
-      set-aside = 1;
-      time-on-test = 16;
-    })
+    ≡ Ok four-u-shaped-curve
 unfolding u-shaped-by ages upto best-gap study-watched study-failed rising-blocks falling-blocks bits scaled-log2 leadingZeros
 four-turned = refl
 
 one-computed : falling-by (study-counts one) 2 1 (upto (study-watched one) 1)
-    ≡ Ok (record { steps = step 0 1 1 1 ∷ []; turning-gap = 2; score = pos 0; counted = 1; set-aside = 0; time-on-test = 1 })
+    ≡ Ok one-curve
 unfolding falling-by ages upto study-watched study-failed rising-blocks falling-blocks bits scaled-log2 leadingZeros
 one-computed = refl
 
@@ -292,7 +264,7 @@ has-fault = better rival refl (beats .0) (beats .1)
 
 -- ---- releases, archives and logarithms
 
-growth-computed : growth-answer noted 3 ≡ Ok (record { steps = 2; score = negsuc 1531643 })
+growth-computed : growth-answer noted 3 ≡ Ok (record { steps = 2; score = negℤ (pos 1531644) })
 unfolding rising-blocks bits scaled-log2 leadingZeros
 growth-computed = refl
 

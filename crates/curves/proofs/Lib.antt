@@ -2,6 +2,7 @@ mod Solids
 mod Parts
 pub mod Listed
 mod Sides
+pub mod Gaps
 mod Likely
 mod Turns
 pub mod Best
