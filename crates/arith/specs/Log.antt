@@ -39,7 +39,7 @@ scaled-log2 K n = 2 ^ K * top-bit n + bits K (mantissa n) 0
 abbrev pub S : ℕ → ℕ
 S n = scaled-log2 squarings n
 
--- For every n of 32 bits but 0, the logarithm of n times 2 ^ K is at least the value, and less than 2 above it.
+-- For every n of 32 bits but 0, 2 ^ K times the logarithm of n is at least the value, and less than 2 above it.
 abbrev pub Log-is-close : ℕ → Type 0
 Log-is-close K =
     (n : ℕ) → 0 < n → n < 2 ^ 32

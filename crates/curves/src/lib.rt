@@ -1,4 +1,4 @@
-// Failure-rate curves: falling, rising and U-shaped, and that no rival beats them.
+// Failure-rate curves: falling, rising and U-shaped, and that they have no fault.
 mod shapes;
 mod theorems;
 

@@ -6,7 +6,7 @@ ghost use Rattle.curves.specs.Theorems.{Ages-stand, Gap-is-best, Gaps-agree, P
 ghost use Rattle.curves.specs.declared.shapes.Shape.{Shape};
 
 // Of lawful counts and any shape, the curve that the rules give has no fault: no rival with its turning gap that expects no more failures than were counted
-// has a larger product, none of a U-shaped curve with any turning gap one that is larger by more than the score can tell, its steps are those of the rules,
+// has a larger product, none of a U-shaped curve, with any turning gap, that expects no more failures than were counted one that is larger by more than the score can tell, its steps are those of the rules,
 // and no failures and no exposure are lost.
 pub fn no_curve_has_a_fault()
     ensures { λ _. ⌜ No-curve-has-a-fault ⌝ }

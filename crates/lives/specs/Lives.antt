@@ -73,6 +73,6 @@ unstruck l = record { life = l; struck = false }
 abbrev pub strike-out : PlainPlace → PlainPlace
 strike-out p = record { life = p .life; struck = true }
 
--- what unused life memory holds at first
+-- what life memory is filled with before it is lent
 abbrev pub blank-place : PlainPlace
 blank-place = record { life = record { serial = 1; entry = 0; exit = 1; status = Running }; struck = true }

@@ -1,4 +1,4 @@
--- What the two writes into life memory do, in memory's own terms.
+-- What the workers on life memory do, in memory's own terms.
 use mathlib.Core.Path.{_≡_}
 use mathlib.Core.Bool.{true, false}
 use mathlib.Core.List.{List}

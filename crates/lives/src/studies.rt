@@ -12,7 +12,7 @@ pub struct OpenStudy<'a> {
     ghost ok: { (used ≤ 1024) × (used ≤ length (now memory)) },
 }
 
-// Takes no more changes: it is archived and fitted.
+// Takes no more changes: it is archived, and asked as a source.
 #[derive(Drop)]
 pub struct SealedStudy<'a> {
     pub(crate) memory: &'a mut [Place],

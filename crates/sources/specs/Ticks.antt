@@ -1,4 +1,4 @@
--- Sums of a count for each tick. Shut: nothing here is unfolded at a numeral, so no check counts up to the last tick.
+-- Sums of a count for each tick. `upto` is shut: it is not unfolded at a numeral, so no check counts up to the last tick.
 use Prim.Native.Nat.{ℕ, zero, suc, _+_, _-_}
 use Rattle.units.specs.Hours.{last-tick}
 

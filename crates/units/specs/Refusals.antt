@@ -1,4 +1,4 @@
--- What a refusal says: its number in the rules, and for 6, 7 and 8 also the place of a word.
+-- What a refusal says: its number in the rules, and for 6, 7 and 8 also a layer and the place of a word (for 6: the number of words).
 use Prim.Native.Nat.{ℕ}
 use Rattle.std.specs.declared.option.Option.{Option}
 use Rattle.std.specs.declared.option.Option.the-variants.{Some, None}

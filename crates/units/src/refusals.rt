@@ -9,7 +9,7 @@ pub enum Layer {
     Life,
 }
 
-// Where an archive is damaged: the place of a word, counted from 0, and its layer.
+// Where an archive is damaged: the place of a word, counted from 0 (for a bad length: the number of words), and its layer.
 #[derive(Clone, Copy, PartialEq, Eq, Debug)]
 pub struct WordPlace {
     pub layer: Layer,
@@ -42,7 +42,7 @@ pub enum Refusal {
     BadBench,
     // Nothing is there: no counted failure, no failure, no trial, no piece.
     NothingThere,
-    // Step, work, block or word memory is too short.
+    // Step, work, block, gap or word memory is too short.
     MemoryTooShort,
     // The bench did not stop at its last failure.
     NotStoppedAtFailure,
