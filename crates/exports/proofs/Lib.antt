@@ -1,0 +1,2 @@
+pub mod Exposed
+pub mod Counted
