@@ -1,4 +1,6 @@
 // Exact arithmetic of failure-rate fits: the logarithm that scores are made of, and the theorems that the fits rest on.
+#![tactic(auto)]
+
 mod logs;
 mod theorems;
 

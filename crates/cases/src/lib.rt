@@ -1,4 +1,6 @@
 // Worked cases of the rules.
+#![tactic(auto)]
+
 mod worked;
 
 pub use worked::cases_hold;

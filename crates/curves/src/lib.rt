@@ -1,4 +1,6 @@
 // Failure-rate curves: falling, rising and U-shaped, and that they have no fault.
+#![tactic(auto)]
+
 mod fits;
 mod piling;
 mod shapes;

@@ -1,4 +1,6 @@
 // Fits for callers in C: here the rising fit of rates.
+#![tactic(auto)]
+
 ghost use Rattle.std.specs.Prelude.{◌≡◌, ◌≤◌, true, map, length, take, if◌then◌else◌, nat_eq};
 ghost use Rattle.std.specs.Option.{option_map};
 ghost use Rattle.pooling.specs.Kinds.{rate_ratio, rate_made};

@@ -1,4 +1,6 @@
 // Successions of calls on a study, and that none of them leads to a fault.
+#![tactic(auto)]
+
 mod calls;
 mod fitting;
 mod theorems;

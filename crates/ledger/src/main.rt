@@ -1,4 +1,6 @@
 // Reads a ledger from standard input, does each line through the library, and prints one answer for each.
+#![tactic(auto)]
+
 mod answers;
 mod commands;
 mod desk;

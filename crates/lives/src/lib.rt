@@ -1,4 +1,6 @@
 // Lives of fielded units, kept in memory that the caller lends, sealed, and archived.
+#![tactic(auto)]
+
 mod archiving;
 mod checking;
 mod keeping;

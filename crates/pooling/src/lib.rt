@@ -1,4 +1,6 @@
 // Exact pooling of neighbouring pieces: kinds of elements that pool, the stack of blocks, and the rising fit of a list.
+#![tactic(auto)]
+
 ghost use Rattle.std.specs.Prelude.{◌≤◌};
 
 mod kinds;

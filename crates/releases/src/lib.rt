@@ -1,4 +1,6 @@
 // Success shares of firmware releases: a sheet of trials, and the growth over releases.
+#![tactic(auto)]
+
 mod fits;
 mod rows;
 mod sheets;

@@ -1,4 +1,6 @@
 // Sources of counts: studies and bench runs answer the same four questions. Also the bound of a bench run.
+#![tactic(auto)]
+
 mod bench;
 mod bound;
 mod gaps;

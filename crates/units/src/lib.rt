@@ -1,4 +1,6 @@
 // Ages, exposures, and the refusals that every call answers by.
+#![tactic(auto)]
+
 mod ages;
 mod hours;
 mod refusals;
