@@ -7,7 +7,7 @@ use Rattle.arith.proofs.logs.fraction_bits.Goals as goal
 pub loop-init : goal.loop-init
 loop-init c =
     let r = mantissa_range c.args.n c.requires c.ranges.n.fits in
-    rw (c.moved-up.ensures, mod-eq_of_lt r.1) (kept_start squarings _ r.0 r.1)
+    rw (c.moved_up.ensures, mod-eq_of_lt r.1) (kept_start squarings _ r.0 r.1)
 
 pub loop-preserved : goal.loop-preserved
 loop-preserved c = kept_more squarings _ _ c.loop.at.mantissa c.loop.at.bits _ _ c.loop-test.true c.loop.invariant c.square-at.ensures.next c.square-at.ensures.note

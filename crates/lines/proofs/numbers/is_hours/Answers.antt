@@ -2,5 +2,5 @@ use Rattle.std.proofs.Common.{rules}
 use Rattle.lines.proofs.Grammar.{minus_is}
 use Rattle.lines.proofs.numbers.is_hours.Goals as goal
 
-pub returns-then-begins-with : goal.returns-then-begins-with
-returns-then-begins-with c = search (rules, minus_is)
+pub returns-then-begins_with : goal.returns-then-begins_with
+returns-then-begins_with c = search (rules, minus_is)

@@ -16,7 +16,7 @@ loop-i-init c = begun c.args.words.now c.word.result c.word-2.result (omega arit
 
 pub loop-i-preserved : goal.loop-i-preserved
 loop-i-preserved c =
-    grown _ c.loop-i.words c.copy-from-slice.new.self (length c.args.places.now) c.args.places.now c.loop-i.i
+    grown _ c.loop-i.words c.copy_from_slice.new.self (length c.args.places.now) c.args.places.now c.loop-i.i
     c.index-places-i.result (omega arith) c.index-places-i.is (cc) c.loop-i.invariant
 
 pub returns : goal.returns
@@ -28,7 +28,7 @@ returns c =
     record {
       answer = ap Ok size ∙ sym (cond-true _ _ _ enough);
       after =
-          finished ws c.loop-i.words c.word.result c.word-2.result ps c.loop-i.i c.check-word.result (omega arith) (omega arith) c.loop-i.invariant c.check-word.ensures
+          finished ws c.loop-i.words c.word.result c.word-2.result ps c.loop-i.i c.check_word.result (omega arith) (omega arith) c.loop-i.invariant c.check_word.ensures
           ∙ ap (λ n. archive_of (map plain ps) ++ drop n ws) size
           ∙ sym (cond-true _ _ _ enough);
     }

@@ -9,4 +9,4 @@ returns c =
     let x = c.args.hours in
     let r = c.ticks.result in
     let k = c.ticks.ensures in
-    record { value = rw c.ok-or.ensures.value (age_meant x r k); exact = rw c.ok-or.ensures.value (age_exact x r k) }
+    record { value = rw c.ok_or.ensures.value (age_meant x r k); exact = rw c.ok_or.ensures.value (age_exact x r k) }
