@@ -1,8 +1,8 @@
 // Kinds of elements that pool.
 ghost use Rattle.std.specs.Prelude.{◌≡◌, ℕ, Bool};
 ghost use Rattle.isotonic.specs.Laws.{Laws};
+ghost use Rattle.pooling.specs.Laws.{unturned_laws};
 ghost use Rattle.pooling.specs.Turns.{turned_leq, turned_joined, turned_bulk};
-ghost use Rattle.std.proofs.Common.{rules};
 
 // The bulk up to which pooling adds.
 pub const BULK_LIMIT: u64 = 2_147_483_648;
@@ -57,7 +57,7 @@ impl<K: Poolable> Poolable for Turned<K> {
 
     ghost bulks = { turned_bulk K.Poolable.bulks };
 
-    ghost lawful = { Prim.search rules };
+    ghost lawful = { unturned_laws K.Poolable.lawful };
 
     fn most_pieces() -> usize {
         K::most_pieces()

@@ -15,7 +15,7 @@ use units::Refusal;
 
 // Whether the bulks add up to the limit at most.
 fn within_limit<K: Poolable>(pieces: &[K]) -> bool
-    ensures { result ≡ nat_le (sum_by bulks pieces.now) limit }
+    ensures { result ≡ nat_le (sum_by K.bulks pieces.now) limit }
 {
     let mut sum: u64 = 0;
     for piece in pieces {
@@ -30,7 +30,7 @@ fn within_limit<K: Poolable>(pieces: &[K]) -> bool
 
 // Whether a list can be pooled with room for so many blocks.
 fn check_list<K: Poolable>(pieces: &[K], room: usize) -> Result<(), Refusal>
-    ensures { answer result ≡ answered (list_refusal most (length pieces.now) room (sum_by bulks pieces.now)) tt }
+    ensures { answer result ≡ answered (list_refusal K.most (length pieces.now) room (sum_by K.bulks pieces.now)) tt }
 {
     if pieces.is_empty() {
         return Err(Refusal::NothingThere);
@@ -47,9 +47,9 @@ fn check_list<K: Poolable>(pieces: &[K], room: usize) -> Result<(), Refusal>
 // Puts all pieces on a stack in the block memory. Answers the number of blocks.
 fn pool_all<K: Poolable>(pieces: &[K], blocks: &mut [Block<K>]) -> usize
     requires room { length pieces.now ≤ length blocks.old }
-    requires light { sum_by bulks pieces.now ≤ limit }
-    ensures count { result ≡ length (rising_blocks leq joined pieces.now) }
-    ensures memory { blocks.new ≡ fitted_memory (rising_blocks leq joined pieces.now) (length pieces.now) blocks.old blocks.new }
+    requires light { sum_by K.bulks pieces.now ≤ limit }
+    ensures count { result ≡ length (rising_blocks K.leq K.joined pieces.now) }
+    ensures memory { blocks.new ≡ fitted_memory (rising_blocks K.leq K.joined pieces.now) (length pieces.now) blocks.old blocks.new }
 {
     let mut stack = Stack::new(blocks);
     for i in 0..pieces.len() {
@@ -60,8 +60,8 @@ fn pool_all<K: Poolable>(pieces: &[K], blocks: &mut [Block<K>]) -> usize
 
 // The rising fit of a list, its blocks written into the first places of the block memory. Answers the number of blocks.
 pub fn pool_rising<K: Poolable>(pieces: &[K], blocks: &mut [Block<K>]) -> Result<usize, Refusal>
-    ensures answer { answer result ≡ pool_answer leq joined bulks most pieces.now (length blocks.old) }
-    ensures memory { blocks.new ≡ pool_memory leq joined bulks most pieces.now blocks.old blocks.new }
+    ensures answer { answer result ≡ pool_answer K.leq K.joined K.bulks K.most pieces.now (length blocks.old) }
+    ensures memory { blocks.new ≡ pool_memory K.leq K.joined K.bulks K.most pieces.now blocks.old blocks.new }
 {
     check_list(pieces, blocks.len())?;
     Ok(pool_all(pieces, blocks))
@@ -69,12 +69,12 @@ pub fn pool_rising<K: Poolable>(pieces: &[K], blocks: &mut [Block<K>]) -> Result
 
 // Of every kind: the max-min and the min-max rule agree, the blocks tile the pieces, those of fronts nest, and the falling fit is the rising fit in the turned order and, where pooling commutes, of the list read backwards.
 pub fn fits_agree<K: Poolable>() -> u8
-    ensures agree { RulesAgree leq joined bulks }
-    ensures tile { BlocksTile leq joined bulks }
-    ensures turns { FallingTurns leq joined bulks }
-    ensures turned { TurnedFalls leq joined bulks }
-    ensures mirrors { RisingMirrors leq joined bulks }
-    ensures nest { FrontsNest leq joined bulks }
+    ensures agree { RulesAgree K.leq K.joined K.bulks }
+    ensures tile { BlocksTile K.leq K.joined K.bulks }
+    ensures turns { FallingTurns K.leq K.joined K.bulks }
+    ensures turned { TurnedFalls K.leq K.joined K.bulks }
+    ensures mirrors { RisingMirrors K.leq K.joined K.bulks }
+    ensures nest { FrontsNest K.leq K.joined K.bulks }
 {
     0
 }

@@ -10,7 +10,7 @@ use units::Refusal;
 
 // Two neighbouring blocks as one.
 fn merge<K: Poolable>(low: Block<K>, high: Block<K>) -> Block<K>
-    ensures { result ≡ merged joined low high }
+    ensures { result ≡ merged K.joined low high }
 {
     Block {
         first: low.first,
@@ -22,8 +22,8 @@ fn merge<K: Poolable>(low: Block<K>, high: Block<K>) -> Block<K>
 // Puts a block on the stack in the first `height` places, merged with the blocks at the top that it does not rise above. Answers the new height.
 fn pool_onto<K: Poolable>(blocks: &mut [Block<K>], mut height: usize, mut block: Block<K>) -> usize
     requires room { height < length blocks.old }
-    ensures height { result ≡ length (pushed leq joined (stack_in blocks.old height) block) }
-    ensures memory { blocks.new ≡ laid_in (pushed leq joined (stack_in blocks.old height) block) blocks.old }
+    ensures height { result ≡ length (pushed K.leq K.joined (stack_in blocks.old height) block) }
+    ensures memory { blocks.new ≡ laid_in (pushed K.leq K.joined (stack_in blocks.old height) block) blocks.old }
 {
     while height > 0 && block.element.at_most(&blocks[height - 1].element) {
         block = merge(blocks[height - 1], block);
@@ -77,8 +77,8 @@ impl<'a, K: Poolable> Stack<'a, K> {
     // Puts a piece on a stack with a place left.
     pub(crate) fn put(&mut self, piece: usize, element: K)
         requires room { self.old.height < length self.old.blocks.now }
-        ensures height { self.new.height ≡ length (stack_after leq joined self.old.blocks.now self.old.height piece element) }
-        ensures memory { self.new.blocks.now ≡ laid_in (stack_after leq joined self.old.blocks.now self.old.height piece element) self.old.blocks.now }
+        ensures height { self.new.height ≡ length (stack_after K.leq K.joined self.old.blocks.now self.old.height piece element) }
+        ensures memory { self.new.blocks.now ≡ laid_in (stack_after K.leq K.joined self.old.blocks.now self.old.height piece element) self.old.blocks.now }
         ensures named { self.new.blocks.ghost_name ≡ self.old.blocks.ghost_name }
     {
         let height = self.height;
@@ -94,8 +94,8 @@ impl<'a, K: Poolable> Stack<'a, K> {
     // Puts a piece on the stack; refused where the stack fills its memory.
     pub fn push(&mut self, piece: usize, element: K) -> Result<(), Refusal>
         ensures answer { answer result ≡ answered (push_refusal self.old.height (length self.old.blocks.now)) tt }
-        ensures height { self.new.height ≡ push_height leq joined self.old.blocks.now self.old.height piece element }
-        ensures memory { self.new.blocks.now ≡ push_memory leq joined self.old.blocks.now self.old.height piece element }
+        ensures height { self.new.height ≡ push_height K.leq K.joined self.old.blocks.now self.old.height piece element }
+        ensures memory { self.new.blocks.now ≡ push_memory K.leq K.joined self.old.blocks.now self.old.height piece element }
         ensures named { self.new.blocks.ghost_name ≡ self.old.blocks.ghost_name }
     {
         if self.height >= self.blocks.len() {

@@ -21,14 +21,14 @@ pub struct Gap {
 
 // All exposure of a source.
 pub fn total_time_on_test<S: Source>(source: &S) -> Exposure
-    ensures { result.0 ≡ whole (counts source.now).watched }
+    ensures { result.0 ≡ whole (S.counts source.now).watched }
 {
     source.exposure_between(Age(0), Age(LAST_AGE))
 }
 
 // How many ages up to the last have failures.
 pub fn count_failure_ages<S: Source>(source: &S, last: Age) -> usize
-    ensures { result ≡ length (ages (counts source.now).failed last.0) }
+    ensures { result ≡ length (ages (S.counts source.now).failed last.0) }
 {
     let mut count = 0;
     let mut age = Age(0);
@@ -41,7 +41,7 @@ pub fn count_failure_ages<S: Source>(source: &S, last: Age) -> usize
 
 // The failures at all ages up to the last.
 pub fn failures_up_to<S: Source>(source: &S, last: Age) -> u32
-    ensures { result ≡ upto (counts source.now).failed last.0 }
+    ensures { result ≡ upto (S.counts source.now).failed last.0 }
 {
     let mut sum = 0;
     let mut age = Age(0);
@@ -54,8 +54,8 @@ pub fn failures_up_to<S: Source>(source: &S, last: Age) -> u32
 
 // Writes the gaps of the failure ages up to the last, and answers their number.
 pub fn list_gaps<S: Source>(source: &S, last: Age, memory: &mut [Gap]) -> Result<usize, Refusal>
-    ensures answer { answer result ≡ list_answer (length (ages (counts source.now).failed last.0)) memory.old }
-    ensures memory { memory.new ≡ list_memory (length (ages (counts source.now).failed last.0)) (gaps (counts source.now).watched (counts source.now).failed last.0) memory.old }
+    ensures answer { answer result ≡ list_answer (length (ages (S.counts source.now).failed last.0)) memory.old }
+    ensures memory { memory.new ≡ list_memory (length (ages (S.counts source.now).failed last.0)) (gaps (S.counts source.now).watched (S.counts source.now).failed last.0) memory.old }
 {
     let count = count_failure_ages(source, last);
     if count > memory.len() {
@@ -66,8 +66,8 @@ pub fn list_gaps<S: Source>(source: &S, last: Age, memory: &mut [Gap]) -> Result
 }
 
 fn write_gaps<S: Source>(source: &S, last: Age, memory: &mut [Gap])
-    requires { length (ages (counts source.now).failed last.0) ≤ length memory.old }
-    ensures { memory.new ≡ gaps (counts source.now).watched (counts source.now).failed last.0 ++ drop (length (ages (counts source.now).failed last.0)) memory.old }
+    requires { length (ages (S.counts source.now).failed last.0) ≤ length memory.old }
+    ensures { memory.new ≡ gaps (S.counts source.now).watched (S.counts source.now).failed last.0 ++ drop (length (ages (S.counts source.now).failed last.0)) memory.old }
 {
     let mut count = 0;
     let mut age = Age(0);
@@ -80,7 +80,7 @@ fn write_gaps<S: Source>(source: &S, last: Age, memory: &mut [Gap])
 
 // The gap from one age to another: the failures at its end, and its exposure.
 pub fn gap_between<S: Source>(source: &S, from: Age, to: Age) -> Gap
-    ensures { result ≡ gap (counts source.now).watched (counts source.now).failed from.0 to.0 }
+    ensures { result ≡ gap (S.counts source.now).watched (S.counts source.now).failed from.0 to.0 }
 {
     Gap {
         age: to,
@@ -90,7 +90,7 @@ pub fn gap_between<S: Source>(source: &S, from: Age, to: Age) -> Gap
 }
 
 fn next_up_to<S: Source>(source: &S, above: Age, last: Age) -> Option<Age>
-    ensures { NextUpTo (counts source.now).failed above.0 last.0 result }
+    ensures { NextUpTo (S.counts source.now).failed above.0 last.0 result }
 {
     match source.next_failure(above) {
         Some(age) => if is_up_to(age, last) { Some(age) } else { None },

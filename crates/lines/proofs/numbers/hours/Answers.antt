@@ -7,4 +7,4 @@ returns-in_default c = absurd (c.in_default.ensures.cases.0 (hours_text c.args.f
 
 pub returns : goal.returns
 returns c =
-    hours_parsed c.args.field.now c.in-Ok.text.now (is_ok c.parse.result) (is_some c.ok.result) c.in-Ok.ensures.cases.0 (sym c.if-not-is_hours.ensures) c.parse.ensures.value.0 c.ok.ensures.variant
+    hours_parsed c.args.field.now c.in-Ok.text.now (is_ok c.parse.result) (is_some c.ok.result) c.in-Ok.ensures.cases.0 (sym c.if-not-is_hours.ensures) c.parse.ensures.value.0.0 c.ok.ensures.variant

@@ -6,8 +6,8 @@ use Rattle.sources.specs.StudyLaws.{places_bounded}
 use Rattle.sources.proofs.Lives.{ticks_of_all, ticks_more, ticks_few, lives_between}
 use Rattle.sources.proofs.study.exposure_in.Goals as goal
 
-pub overflow-add-sum : goal.overflow-add-sum
-overflow-add-sum c =
+pub overflow_add-sum : goal.overflow_add-sum
+overflow_add-sum c =
     let p = c.place-item.result in
     omega (arith, c.loop-place.invariant.1, c.requires, c.loop-place-test.true, c.ticks-sum.ensures, ticks_few (plain p) (p.life.ok.2, p.life.ok.3) c.args.from.0 c.args.to.0)
 

@@ -5,7 +5,7 @@ use Rattle.lives.specs.Lives.{plain}
 use Rattle.sources.specs.Studies.{failed_at, study_failed}
 use Rattle.sources.proofs.Lives.{count_more}
 use Rattle.sources.proofs.study.failures_in.Goals as goal
-use Rattle.sources.proofs.study.failures_in.Goals.{then-fails-at, else-fails-at}
+use Rattle.sources.proofs.study.failures_in.Goals.{then-fails_at, else-fails_at}
 
 pub loop-place-init : goal.loop-place-init
 unfolding study_failed
@@ -19,9 +19,9 @@ loop-place-preserved c =
     let p = c.place-item.result in
     let t = c.args.age.0 in
     let more = count_more (failed_at t) ps i p c.place-item.is c.loop-place-test.true in
-    elim c.if-fails-at.branch [
-      | then-fails-at w ↦ (omega (arith, more, w.count-is, c.loop-place.invariant.0, cond-true {A = ℕ} (failed_at t (plain p)) 1 0 (sym c.fails-at.ensures ∙ w.if-fails-at.true)), omega (arith, w.count-is, c.loop-place.invariant.1))
-      | else-fails-at w ↦ (omega (arith, more, w.count-is, c.loop-place.invariant.0, cond-false {A = ℕ} (failed_at t (plain p)) 1 0 (sym c.fails-at.ensures ∙ w.if-fails-at.false)), omega (arith, w.count-is, c.loop-place.invariant.1))
+    elim c.if-fails_at.branch [
+      | then-fails_at w ↦ (omega (arith, more, w.count-is, c.loop-place.invariant.0, cond-true {A = ℕ} (failed_at t (plain p)) 1 0 (sym c.fails_at.ensures ∙ w.if-fails_at.true)), omega (arith, w.count-is, c.loop-place.invariant.1))
+      | else-fails_at w ↦ (omega (arith, more, w.count-is, c.loop-place.invariant.0, cond-false {A = ℕ} (failed_at t (plain p)) 1 0 (sym c.fails_at.ensures ∙ w.if-fails_at.false)), omega (arith, w.count-is, c.loop-place.invariant.1))
     ]
 
 pub returns : goal.returns

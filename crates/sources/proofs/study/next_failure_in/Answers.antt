@@ -19,7 +19,7 @@ loop-place-preserved c =
     let p = c.place-item.result in
     let f = study_failed (map plain (take (i + 1) ps)) in
     let step = next_sooner f (study_failed (map plain (take i ps))) (λ t. cond (failed_at t (plain p)) 1 0)
-    (λ t. count_more (failed_at t) ps i p c.place-item.is c.loop-place-test.true) c.args.above.0 c.loop-place.next c.failure-after.result c.loop-place.invariant c.failure-after.ensures in
+    (λ t. count_more (failed_at t) ps i p c.place-item.is c.loop-place-test.true) c.args.above.0 c.loop-place.next c.failure_after.result c.loop-place.invariant c.failure_after.ensures in
     subst (Next f c.args.above.0) (sym c.earlier-next.ensures) step
 
 pub returns : goal.returns

@@ -20,8 +20,8 @@ loop-place-preserved c =
     let one = λ (t : ℕ). cond {A = ℕ} (watched_at t (plain p)) 1 0 in
     oldest_both (study_watched (map plain (take (i + 1) ps))) one (study_watched (map plain (take i ps)))
     (λ t. omega (arith, count_more (watched_at t) ps i p c.place-item.is c.loop-place-test.true))
-    c.last-age.result c.loop-place.oldest _ c.max-oldest.ensures
-    (subst (Oldest one) (sym c.last-age.ensures) (oldest_one (plain p) (p.life.ok.2, p.life.ok.3))) c.loop-place.invariant
+    c.last_age.result c.loop-place.oldest _ c.max-oldest.ensures
+    (subst (Oldest one) (sym c.last_age.ensures) (oldest_one (plain p) (p.life.ok.2, p.life.ok.3))) c.loop-place.invariant
 
 pub returns : goal.returns
 returns c = subst (λ qs. Oldest (study_watched (map plain qs)) c.loop-place.oldest) (take_all c.loop-place.place-index c.args.places.now c.loop-place-test.false) c.loop-place.invariant

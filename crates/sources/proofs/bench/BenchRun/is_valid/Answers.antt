@@ -8,4 +8,4 @@ pub returns : goal.returns
 unfolding valid
 returns c =
     let b = c.args.self.now in
-    ap₂ (λ x y. x && y) (c.are-sizes-valid.ensures ∙ ap (λ k. sizes_valid b.units k b.stop.0) (sym (length-map b.ages.now age_ticks))) c.are-in-order.ensures
+    ap₂ (λ x y. x && y) (c.are_sizes_valid.ensures ∙ ap (λ k. sizes_valid b.units k b.stop.0) (sym (length-map b.ages.now age_ticks))) c.are_in_order.ensures

@@ -7,14 +7,14 @@ use Rattle.sources.specs.BenchLaws.{valid_means, failed_valid, failed_void}
 use Rattle.sources.proofs.Benches.{no_age, ages_more, ages_none}
 use Rattle.sources.proofs.bench.BenchRunSource.failures_at.Goals as goal
 
-pub returns-then-not-is-valid : goal.returns-then-not-is-valid
-returns-then-not-is-valid c = sym (failed_void _ (sym c.if-not-is-valid.ensures) c.args.age.0)
+pub returns-then-not-is_valid : goal.returns-then-not-is_valid
+returns-then-not-is_valid c = sym (failed_void _ (sym c.if-not-is_valid.ensures) c.args.age.0)
 
-pub overflow-add-count : goal.overflow-add-count
-overflow-add-count c =
+pub overflow_add-count : goal.overflow_add-count
+overflow_add-count c =
     let xs = c.args.self.now.ages.now in
-    let v = valid_means _ (sym c.if-not-is-valid.ensures) in
-    omega (arith, v.fits, v.few, length-map xs age_ticks, c.one-at-count.ensures, hit (get_or xs c.loop-failed.failed-index no_age).0 c.args.age.0, c.loop-failed.invariant.1, c.loop-failed-test.true)
+    let v = valid_means _ (sym c.if-not-is_valid.ensures) in
+    omega (arith, v.fits, v.few, length-map xs age_ticks, c.one_at-count.ensures, hit (get_or xs c.loop-failed.failed-index no_age).0 c.args.age.0, c.loop-failed.invariant.1, c.loop-failed-test.true)
 
 pub loop-failed-preserved : goal.loop-failed-preserved
 loop-failed-preserved c =
@@ -22,10 +22,10 @@ loop-failed-preserved c =
     let i = c.loop-failed.failed-index in
     let t = c.args.age.0 in
     let more = ages_more (λ ys. number_at ys t) xs i c.loop-failed-test.true in
-    (omega (arith, more, c.one-at-count.ensures, c.loop-failed.invariant.0), omega (arith, c.one-at-count.ensures, hit (get_or xs i no_age).0 t, c.loop-failed.invariant.1))
+    (omega (arith, more, c.one_at-count.ensures, c.loop-failed.invariant.0), omega (arith, c.one_at-count.ensures, hit (get_or xs i no_age).0 t, c.loop-failed.invariant.1))
 
 pub returns : goal.returns
 returns c =
     let t = c.args.age.0 in
     let none = ages_none (λ ys. number_at ys t) c.args.self.now.ages.now c.loop-failed.failed-index c.loop-failed-test.false in
-    omega (arith, none, c.loop-failed.invariant.0, failed_valid (plain_bench c.args.self.now) (sym c.if-not-is-valid.ensures) t)
+    omega (arith, none, c.loop-failed.invariant.0, failed_valid (plain_bench c.args.self.now) (sym c.if-not-is_valid.ensures) t)
