@@ -57,7 +57,7 @@ impl Work<'_> {
 
 // The last age at which failures are counted.
 fn last_counted_age<S: Source>(source: &S, shape: Shape) -> Age
-    ensures { result.0 ≡ last_counted (counts source.now) shape }
+    ensures { result.0 ≡ last_counted (S.counts source.now) shape }
 {
     let oldest = source.oldest_age();
     match shape {
@@ -68,7 +68,7 @@ fn last_counted_age<S: Source>(source: &S, shape: Shape) -> Age
 
 // The failures set aside.
 fn failures_aside<S: Source>(source: &S, shape: Shape) -> u32
-    ensures { result ≡ aside (counts source.now) shape }
+    ensures { result ≡ aside (S.counts source.now) shape }
 {
     match shape {
         Shape::Falling => 0,
@@ -91,10 +91,10 @@ fn check_room(count: usize, steps: usize, works: usize) -> Result<(), Refusal>
 
 // Writes the gaps of the counted ages, and last the gap from there to the oldest age.
 fn list_table<S: Source>(source: &S, last: Age, count: usize, gaps: &mut [Gap])
-    requires count { count ≡ length (ages (counts source.now).failed last.0) }
+    requires count { count ≡ length (ages (S.counts source.now).failed last.0) }
     requires some { 0 < count }
     requires room { count < length gaps.old }
-    ensures table { take (count + 1) gaps.new ≡ table (counts source.now).watched (counts source.now).failed (ages (counts source.now).failed last.0) (oldest (counts source.now).watched) }
+    ensures table { take (count + 1) gaps.new ≡ table (S.counts source.now).watched (S.counts source.now).failed (ages (S.counts source.now).failed last.0) (oldest (S.counts source.now).watched) }
     ensures rest { drop (count + 1) gaps.new ≡ drop (count + 1) gaps.old }
 {
     let _ = list_gaps(source, last, gaps);
@@ -130,12 +130,12 @@ pub fn fit_curve<S: Source>(
     steps: &mut [Step],
     work: Work,
 ) -> Result<Fit, Refusal>
-    ensures answer { answer result ≡ fit_result (counts source.now) shape (length steps.old) (work_places work.entry) }
-    ensures steps { steps.new ≡ fit_steps (counts source.now) shape (length steps.old) (work_places work.entry) steps.old }
-    ensures gaps { work.exit.0.now ≡ fit_work (counts source.now) shape (length steps.old) (work_places work.entry) work.entry.gaps.now work.exit.0.now }
-    ensures blocks { work.exit.1.0.now ≡ fit_work (counts source.now) shape (length steps.old) (work_places work.entry) work.entry.blocks.now work.exit.1.0.now }
-    ensures scores { work.exit.1.1.0.now ≡ fit_work (counts source.now) shape (length steps.old) (work_places work.entry) work.entry.scores.now work.exit.1.1.0.now }
-    ensures faultless { IfOk result (λ a. Fault (counts source.now) shape (shown a steps.new) → ⊥) }
+    ensures answer { answer result ≡ fit_result (S.counts source.now) shape (length steps.old) (work_places work.entry) }
+    ensures steps { steps.new ≡ fit_steps (S.counts source.now) shape (length steps.old) (work_places work.entry) steps.old }
+    ensures gaps { work.exit.0.now ≡ fit_work (S.counts source.now) shape (length steps.old) (work_places work.entry) work.entry.gaps.now work.exit.0.now }
+    ensures blocks { work.exit.1.0.now ≡ fit_work (S.counts source.now) shape (length steps.old) (work_places work.entry) work.entry.blocks.now work.exit.1.0.now }
+    ensures scores { work.exit.1.1.0.now ≡ fit_work (S.counts source.now) shape (length steps.old) (work_places work.entry) work.entry.scores.now work.exit.1.1.0.now }
+    ensures faultless { IfOk result (λ a. Fault (S.counts source.now) shape (shown a steps.new) → ⊥) }
 {
     let last = last_counted_age(source, shape);
     let count = count_failure_ages(source, last);

@@ -9,6 +9,6 @@ pub returns : goal.returns
 returns g c =
     let n = (g.S.Source.counts c.args.source.now).watched in
     let f = (g.S.Source.counts c.args.source.now).failed in
-    let listed = table_listed n f (oldest n) c.args.last.0 c.args.count c.args.gaps.now c.list-gaps.new.memory c.gap-between.result c.requires.count c.requires.some c.requires.room c.list-gaps.ensures.memory
-    (c.gap-between.ensures ∙ ap (λ (x : ℕ). gap n f (gap_at c.list-gaps.new.memory (c.args.count - 1)).age.0 x) c.oldest-age.ensures) in
+    let listed = table_listed n f (oldest n) c.args.last.0 c.args.count c.args.gaps.now c.list_gaps.new.memory c.gap_between.result c.requires.count c.requires.some c.requires.room c.list_gaps.ensures.memory
+    (c.gap_between.ensures ∙ ap (λ (x : ℕ). gap n f (gap_at c.list_gaps.new.memory (c.args.count - 1)).age.0 x) c.oldest_age.ensures) in
     record { table = listed.0; rest = listed.1 }

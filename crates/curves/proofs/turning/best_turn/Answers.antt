@@ -8,7 +8,7 @@ use Rattle.curves.specs.declared.turning.Turn.{Turn}
 use Rattle.curves.proofs.Passes.{score_at, Piled, pile_start, pile_more, top_sum, score_within, sum_fits, sum_is, inner_is, both_fit, both_are, kept_is, pass_start, pass_more, pass_end}
 use Rattle.curves.proofs.Scored.{pile_length, pile_at, right_light, left_score, best_of_table}
 use Rattle.curves.proofs.turning.best_turn.Goals as goal
-use Rattle.curves.proofs.turning.best_turn.Goals.{After-push-piece-top, After-score}
+use Rattle.curves.proofs.turning.best_turn.Goals.{After-push_piece-top, After-score}
 
 pub loop-done-init : goal.loop-done-init
 loop-done-init c =
@@ -24,40 +24,40 @@ loop-done-init c =
     )
 
 -- after the push: the pile, and the sum that the block at the top gives
-pushed_on : (c : After-push-piece-top) → let xs = pile c.args.gaps.now c.args.count Right c.args.count in let top = c.push-piece-top.result in
-    Piled xs c.new-stack.result.blocks.now c.push-piece-top.new.stack.blocks.now c.push-piece-top.new.stack.height (c.loop-done.done + 1)
+pushed_on : (c : After-push_piece-top) → let xs = pile c.args.gaps.now c.args.count Right c.args.count in let top = c.push_piece-top.result in
+    Piled xs c.new-stack.result.blocks.now c.push_piece-top.new.stack.blocks.now c.push_piece-top.new.stack.height (c.loop-done.done + 1)
     × (top.first ≤ c.loop-done.done) × (score_at xs (c.loop-done.done + 1) ≡ score_at xs top.first +ℤ rate_score top.element)
 pushed_on c =
     let gs = c.args.gaps.now in
     let k = c.args.count in
     let i = c.loop-done.done in
     let xs = pile gs k Right k in
-    let e = c.push-piece-top.ensures in
+    let e = c.push_piece-top.ensures in
     let long = pile_length gs k Right k in
-    let more : Piled xs c.new-stack.result.blocks.now c.push-piece-top.new.stack.blocks.now c.push-piece-top.new.stack.height (i + 1) =
-    pile_more xs c.new-stack.result.blocks.now c.loop-done.stack.blocks.now c.push-piece-top.new.stack.blocks.now c.loop-done.stack.height c.push-piece-top.new.stack.height i c.piece.result
+    let more : Piled xs c.new-stack.result.blocks.now c.push_piece-top.new.stack.blocks.now c.push_piece-top.new.stack.height (i + 1) =
+    pile_more xs c.new-stack.result.blocks.now c.loop-done.stack.blocks.now c.push_piece-top.new.stack.blocks.now c.loop-done.stack.height c.push_piece-top.new.stack.height i c.piece.result
     c.loop-done.invariant.0 (omega (arith, long)) (pile_at gs k Right i c.piece.result (omega arith) c.piece.ensures) e.pile e.low e.rest e.long in
-    let sum = top_sum xs i _ c.push-piece-top.result (omega (arith, long)) more.stack e.top in
+    let sum = top_sum xs i _ c.push_piece-top.result (omega (arith, long)) more.stack e.top in
     (more, sum.0, sum.1)
 
-pub overflow-sub-back : goal.overflow-sub-back
-overflow-sub-back c = omega (arith, (pushed_on c).1)
+pub overflow_sub-back : goal.overflow_sub-back
+overflow_sub-back c = omega (arith, (pushed_on c).1)
 
 -- what is added: the score of the pieces below the block, and that of one piece more
-summed : (c : After-score) → let xs = pile c.args.gaps.now c.args.count Right c.args.count in let a = get_or c.loop-done.scores (c.args.count - c.push-piece-top.result.first) (pos 0) in
+summed : (c : After-score) → let xs = pile c.args.gaps.now c.args.count Right c.args.count in let a = get_or c.loop-done.scores (c.args.count - c.push_piece-top.result.first) (pos 0) in
     Within score_bound a × Within score_bound (score_at xs (c.loop-done.done + 1)) × (score_at xs (c.loop-done.done + 1) ≡ a +ℤ c.score.result)
 summed c =
-    let p = pushed_on (goal.at.overflow-add-back c).After-push-piece-top in
+    let p = pushed_on (goal.at.overflow_add-back c).After-push_piece-top in
     let xs = pile c.args.gaps.now c.args.count Right c.args.count in
     let light = right_light c.args.gaps.now c.args.count c.requires.light.1 in
-    let a = c.loop-done.invariant.2.backs c.push-piece-top.result.first p.1 in (
-      subst (Within score_bound) (sym a) (score_within xs light c.push-piece-top.result.first),
+    let a = c.loop-done.invariant.2.backs c.push_piece-top.result.first p.1 in (
+      subst (Within score_bound) (sym a) (score_within xs light c.push_piece-top.result.first),
       score_within xs light (c.loop-done.done + 1),
       p.2 ∙ (λ t. sym a t +ℤ sym c.score.ensures t),
     )
 
-pub overflow-add-back : goal.overflow-add-back
-overflow-add-back c = let s = summed c in sum_fits _ _ _ s.0 s.1 s.2
+pub overflow_add-back : goal.overflow_add-back
+overflow_add-back c = let s = summed c in sum_fits _ _ _ s.0 s.1 s.2
 
 -- the score of the front that is still ahead
 ahead : (c : After-score) → get_or c.loop-done.scores (c.args.count - 1 - c.loop-done.done) (pos 0) ≡ score_at (pile c.args.gaps.now c.args.count Left c.args.count) (c.args.count - 1 - c.loop-done.done)
@@ -67,24 +67,24 @@ ahead_within : (c : After-score) → Within score_bound (get_or c.loop-done.scor
 ahead_within c =
     subst (Within score_bound) (sym (ahead c)) (score_within (pile c.args.gaps.now c.args.count Left c.args.count) c.requires.light.0 (c.args.count - 1 - c.loop-done.done))
 
-back_within : (c : After-score) → Within score_bound (to_z w64 (of_z w64 (get_or c.loop-done.scores (c.args.count - c.push-piece-top.result.first) (pos 0))) +ℤ to_z w64 (of_z w64 c.score.result))
+back_within : (c : After-score) → Within score_bound (to_z w64 (of_z w64 (get_or c.loop-done.scores (c.args.count - c.push_piece-top.result.first) (pos 0))) +ℤ to_z w64 (of_z w64 c.score.result))
 back_within c = let s = summed c in subst (Within score_bound) (sym (inner_is _ _ _ s.0 s.1 s.2)) s.1
 
-pub overflow-add-score : goal.overflow-add-score
-overflow-add-score c =
-    let p = (goal.at.overflow-add-score c).After-score in
+pub overflow_add-score : goal.overflow_add-score
+overflow_add-score c =
+    let p = (goal.at.overflow_add-score c).After-score in
     both_fit _ _ (ahead_within p) (back_within p)
 
 pub loop-done-preserved : goal.loop-done-preserved
 loop-done-preserved c =
     let p = (goal.at.loop-done-preserved c).After-score in
-    let on = pushed_on (goal.at.loop-done-preserved c).After-push-piece-top in
+    let on = pushed_on (goal.at.loop-done-preserved c).After-push_piece-top in
     let s = summed p in
     let gs = c.args.gaps.now in
     let k = c.args.count in
     let back = sum_is _ _ _ s.0 s.1 s.2 in (
       on.0,
-      c.push-piece-top.ensures.named ∙ c.loop-done.invariant.1,
+      c.push_piece-top.ensures.named ∙ c.loop-done.invariant.1,
       pass_more k (pile gs k Right k) (score_at (pile gs k Left k)) c.loop-done.scores c.loop-done.done c.loop-done.best.left c.better-best.result.left c.loop-done.best.score c.better-best.result.score
           _ _ (omega arith) (omega (arith, c.loop-done.auto.scores, length-set c.args.scores.now k (pos 0), c.requires.room.1)) c.loop-done.invariant.2 back
           (both_are _ _ (ahead_within p) (back_within p) ∙ ap (λ (z : ℤ). get_or c.loop-done.scores (k - 1 - c.loop-done.done) (pos 0) +ℤ z) (inner_is _ _ _ s.0 s.1 s.2 ∙ sym back))

@@ -10,8 +10,8 @@ use Rattle.curves.proofs.writing.stack_side.Goals as goal
 pub loop-i-init : goal.loop-i-init
 loop-i-init c = (pile_start (pile c.args.gaps.now c.args.count c.args.side c.args.count) c.new-stack.result.blocks.now c.new-stack.result.height c.new-stack.ensures.height, refl)
 
-pub push-piece-requires : goal.push-piece-requires
-push-piece-requires c =
+pub push_piece-requires : goal.push_piece-requires
+push_piece-requires c =
     let s = c.loop-i.invariant.0 in
     record { room = omega (arith, s.low, s.long, ap length c.new-stack.ensures.memory, c.requires.room) }
 
@@ -20,8 +20,8 @@ loop-i-preserved c =
     let gs = c.args.gaps.now in
     let k = c.args.count in
     let side = c.args.side in
-    let put = c.push-piece.ensures in (
-      pile_more (pile gs k side k) c.new-stack.result.blocks.now c.loop-i.stack.blocks.now c.push-piece.new.stack.blocks.now c.loop-i.stack.height c.push-piece.new.stack.height c.loop-i.i c.piece.result c.loop-i.invariant.0
+    let put = c.push_piece.ensures in (
+      pile_more (pile gs k side k) c.new-stack.result.blocks.now c.loop-i.stack.blocks.now c.push_piece.new.stack.blocks.now c.loop-i.stack.height c.push_piece.new.stack.height c.loop-i.i c.piece.result c.loop-i.invariant.0
           (omega (arith, pile_length gs k side k, c.requires.within)) (pile_at gs k side c.loop-i.i c.piece.result (omega (arith, c.requires.within)) c.piece.ensures) put.pile put.low put.rest put.long,
       put.named ∙ c.loop-i.invariant.1,
     )

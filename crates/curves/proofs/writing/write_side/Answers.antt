@@ -16,24 +16,24 @@ within c = omega (arith, age_length c.args.blocks.now c.args.height c.requires.l
 pub loop-i-init : goal.loop-i-init
 loop-i-init c = (laid_none c.args.at c.args.steps.now, refl)
 
-pub step-of-requires : goal.step-of-requires
-step-of-requires c =
-    let h = c.block-at-block.ensures.inside in
+pub step_of-requires : goal.step_of-requires
+step_of-requires c =
+    let h = c.block_at-block.ensures.inside in
     record { order = h.0; reach = omega (arith, h.1, c.requires.reach) }
 
-pub overflow-add-score : goal.overflow-add-score
-overflow-add-score c =
+pub overflow_add-score : goal.overflow_add-score
+overflow_add-score c =
     let bs = in_age_order c.args.side c.args.size (piled c.args.blocks.now c.args.height) in
-    rw c.loop-i.score_is
-    (add_fits rate_bulk rate_score rates_modest bs c.requires.light c.loop-i.i c.block-at-block.result (within c) c.block-at-block.ensures.is c.loop-i.score c.score-score.result (sym c.loop-i.score_is ∙ c.loop-i.invariant.1) c.score-score.ensures)
+    rw c.loop-i.score-is
+    (add_fits rate_bulk rate_score rates_modest bs c.requires.light c.loop-i.i c.block_at-block.result (within c) c.block_at-block.ensures.is c.loop-i.score c.score-score.result (sym c.loop-i.score-is ∙ c.loop-i.invariant.1) c.score-score.ensures)
 
 pub loop-i-preserved : goal.loop-i-preserved
 loop-i-preserved c =
     let bs = in_age_order c.args.side c.args.size (piled c.args.blocks.now c.args.height) in (
-      laid_more (table_step c.args.gaps.now c.args.start) bs c.args.steps.now c.loop-i.steps c.args.at c.loop-i.i c.block-at-block.result c.step-of.result (within c) (omega arith) c.block-at-block.ensures.is
-          c.step-of.ensures c.loop-i.invariant.0,
-      rw c.loop-i.score_is
-          (add_is rate_bulk rate_score rates_modest bs c.requires.light c.loop-i.i c.block-at-block.result (within c) c.block-at-block.ensures.is c.loop-i.score c.score-score.result (sym c.loop-i.score_is ∙ c.loop-i.invariant.1) c.score-score.ensures),
+      laid_more (table_step c.args.gaps.now c.args.start) bs c.args.steps.now c.loop-i.steps c.args.at c.loop-i.i c.block_at-block.result c.step_of.result (within c) (omega arith) c.block_at-block.ensures.is
+          c.step_of.ensures c.loop-i.invariant.0,
+      rw c.loop-i.score-is
+          (add_is rate_bulk rate_score rates_modest bs c.requires.light c.loop-i.i c.block_at-block.result (within c) c.block_at-block.ensures.is c.loop-i.score c.score-score.result (sym c.loop-i.score-is ∙ c.loop-i.invariant.1) c.score-score.ensures),
     )
 
 pub returns : goal.returns

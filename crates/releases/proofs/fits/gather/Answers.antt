@@ -12,8 +12,8 @@ loop-i-preserved c =
     elim c.if-row-gt0.branch [
       | then-row-gt0 w ↦
           rw (w.shares-is, w.releases-is, w.count-is)
-          (gather_take c.args.rows.now l.i c.index-rows-i.result c.loop-i-test.true c.index-rows-i.is l.shares l.releases l.count l.invariant w.share-of.result
-          w.if-row-gt0.true (omega arith) (omega arith) w.share-of.ensures)
+          (gather_take c.args.rows.now l.i c.index-rows-i.result c.loop-i-test.true c.index-rows-i.is l.shares l.releases l.count l.invariant w.share_of.result
+          w.if-row-gt0.true (omega arith) (omega arith) w.share_of.ensures)
       | else-row-gt0 w ↦
           rw (w.shares-is, w.releases-is, w.count-is)
           (gather_skip c.args.rows.now l.i c.index-rows-i.result c.loop-i-test.true c.index-rows-i.is l.shares l.releases l.count l.invariant (omega arith))

@@ -15,23 +15,23 @@ use Rattle.releases.proofs.fits.write_steps.Goals as goal
 pub loop-i-init : goal.loop-i-init
 loop-i-init c = (front_start _ c.args.blocks.now c.args.steps.now, refl)
 
-pub step-of-requires : goal.step-of-requires
-step-of-requires c =
+pub step_of-requires : goal.step_of-requires
+step_of-requires c =
     let b = c.index-blocks-i.result in
     subst (Inside (length c.args.releases.now)) (sym c.index-blocks-i.is)
     (All-get_or (Inside (length c.args.releases.now)) c.args.blocks.now c.loop-i.i b c.loop-i-test.true c.requires.inside)
 
-pub overflow-add-score : goal.overflow-add-score
-overflow-add-score c =
-    rw c.loop-i.score_is
-    (add_fits share_bulk share_score shares_modest c.args.blocks.now c.requires.light c.loop-i.i c.index-blocks-i.result c.loop-i-test.true c.index-blocks-i.is c.loop-i.score c.score-score.result (sym c.loop-i.score_is ∙ c.loop-i.invariant.1) c.score-score.ensures)
+pub overflow_add-score : goal.overflow_add-score
+overflow_add-score c =
+    rw c.loop-i.score-is
+    (add_fits share_bulk share_score shares_modest c.args.blocks.now c.requires.light c.loop-i.i c.index-blocks-i.result c.loop-i-test.true c.index-blocks-i.is c.loop-i.score c.score-score.result (sym c.loop-i.score-is ∙ c.loop-i.invariant.1) c.score-score.ensures)
 
 pub loop-i-preserved : goal.loop-i-preserved
 loop-i-preserved c = (
-  front_more _ c.args.blocks.now c.args.steps.now c.loop-i.steps c.loop-i.i c.index-blocks-i.result c.step-of.result c.loop-i-test.true (omega arith) c.index-blocks-i.is
-      c.step-of.ensures c.loop-i.invariant.0,
-  rw c.loop-i.score_is
-      (add_is share_bulk share_score shares_modest c.args.blocks.now c.requires.light c.loop-i.i c.index-blocks-i.result c.loop-i-test.true c.index-blocks-i.is c.loop-i.score c.score-score.result (sym c.loop-i.score_is ∙ c.loop-i.invariant.1) c.score-score.ensures),
+  front_more _ c.args.blocks.now c.args.steps.now c.loop-i.steps c.loop-i.i c.index-blocks-i.result c.step_of.result c.loop-i-test.true (omega arith) c.index-blocks-i.is
+      c.step_of.ensures c.loop-i.invariant.0,
+  rw c.loop-i.score-is
+      (add_is share_bulk share_score shares_modest c.args.blocks.now c.requires.light c.loop-i.i c.index-blocks-i.result c.loop-i-test.true c.index-blocks-i.is c.loop-i.score c.score-score.result (sym c.loop-i.score-is ∙ c.loop-i.invariant.1) c.score-score.ensures),
 )
 
 pub returns : goal.returns

@@ -7,20 +7,20 @@ use Rattle.releases.specs.Sheets.{sheet_rows}
 use Rattle.releases.proofs.Fitted.{growth_is, memory_is}
 use Rattle.releases.proofs.sheets.ReleaseSheet.growth.Goals as goal
 
-pub slice-bounds-fit-shares-end : goal.slice-bounds-fit-shares-end
-slice-bounds-fit-shares-end c =
+pub slice_bounds-fit_shares-end : goal.slice_bounds-fit_shares-end
+slice_bounds-fit_shares-end c =
     let full : length c.args.self.now.rows ≡ row_count = search rules in
     let few = c.gather-count.ensures.few in
     search rules
 
-pub slice-bounds-fit-shares-end-2 : goal.slice-bounds-fit-shares-end-2
-slice-bounds-fit-shares-end-2 c =
+pub slice_bounds-fit_shares-end-2 : goal.slice_bounds-fit_shares-end-2
+slice_bounds-fit_shares-end-2 c =
     let full : length c.args.self.now.rows ≡ row_count = search rules in
     let few = c.gather-count.ensures.few in
     search rules
 
-pub fit-shares-requires : goal.fit-shares-requires
-fit-shares-requires c =
+pub fit_shares-requires : goal.fit_shares-requires
+fit_shares-requires c =
     let count = c.gather-count.result in
     let shares = c.gather-count.new.shares in
     let releases = c.gather-count.new.releases in
@@ -52,6 +52,6 @@ returns c =
     let numbers = ap (λ (k : ℕ). take k c.gather-count.new.releases) whole ∙ gave.releases in
     let room : length shares ≤ length steps = omega (arith, length-take (count - 0) c.gather-count.new.shares, c.if-steps-count.false) in
     record {
-      answer = c.fit-shares.ensures.answer ∙ growth_is rows shares releases steps pieces numbers room;
-      memory = c.fit-shares.ensures.memory ∙ memory_is rows shares releases steps pieces numbers room;
+      answer = c.fit_shares.ensures.answer ∙ growth_is rows shares releases steps pieces numbers room;
+      memory = c.fit_shares.ensures.memory ∙ memory_is rows shares releases steps pieces numbers room;
     }
