@@ -54,7 +54,7 @@ fn fit_once<S: Source>(
 ) -> u64
     requires steps { length steps.old ≡ most_gaps }
     requires work { (length gaps.old ≡ most_gaps) × ((length blocks.old ≡ most_gaps) × (length scores.old ≡ most_gaps)) }
-    ensures { result ≡ ushaped_code (counts source.now) }
+    ensures { result ≡ ushaped_code (S.counts source.now) }
 {
     let work = Work {
         gaps,
@@ -78,7 +78,7 @@ fn fit_times<S: Source>(
 ) -> u64
     requires steps { length steps.old ≡ most_gaps }
     requires work { (length gaps.old ≡ most_gaps) × ((length blocks.old ≡ most_gaps) × (length scores.old ≡ most_gaps)) }
-    ensures { result ≡ (if nat_eq times 0 then 0 else ushaped_code (counts source.now)) }
+    ensures { result ≡ (if nat_eq times 0 then 0 else ushaped_code (S.counts source.now)) }
 {
     let mut code = 0;
     for done in 0..times {

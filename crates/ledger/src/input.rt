@@ -1,7 +1,10 @@
 // The lines of standard input, as bytes.
+ghost use Rattle.std.specs.Prelude.{◌≡◌, IfErr};
+ghost use Rattle.std.specs.IoError.{error_kind};
+
 use lines::fields::without_end;
 use std::io;
-use std::io::{BufRead, BufReader, Stdin};
+use std::io::{BufRead, BufReader, ErrorKind, Stdin};
 
 // The input, and the line of it that was read last.
 #[derive(Drop)]
@@ -11,11 +14,15 @@ pub struct Input {
 }
 
 impl Input {
-    pub fn new(rt: &HostRuntime) -> Input {
-        Input {
-            reader: BufReader::new(rt.stdin()),
+    // It fails only where there is no memory for the reader's buffer.
+    pub fn new(rt: &HostRuntime) -> io::Result<Input>
+        ensures { IfErr result (λ e. error_kind e ≡ ErrorKind.OutOfMemory) }
+    {
+        let reader = BufReader::new(rt.alloc(), rt.stdin())?;
+        Ok(Input {
+            reader,
             line: Vec::new(rt.alloc()),
-        }
+        })
     }
 
     // Reads the next line. False where there is none.

@@ -24,7 +24,7 @@ enum Next {
 }
 
 pub fn run(rt: &HostRuntime) -> io::Result<()> {
-    let mut input = Input::new(rt);
+    let mut input = Input::new(rt)?;
     let mut desk = Desk::new();
     let mut places = FIRST_MEMORY;
     for _ in 0..u64::MAX {

@@ -12,5 +12,5 @@ returns-then-plain-gt-MOST c =
 pub returns : goal.returns
 returns c =
     let plain = c.args.plain.now in
-    rates_counted (map plain_ratio plain) (take (length plain) c.copy-in.new.rates) c.args.times c.pool-times.result
-    (c.if-not-copy-in.ensures.rates refl) c.pool-times.ensures
+    rates_counted (map plain_ratio plain) (take (length plain) c.copy_in.new.rates) c.args.times c.pool_times.result
+    (c.if-not-copy_in.ensures.rates refl) c.pool_times.ensures

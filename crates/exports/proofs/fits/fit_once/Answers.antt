@@ -18,14 +18,14 @@ small g c =
     gap_small (meant g c.args.source.now) c.in-Ok.fit (works c.args.gaps.now c.args.blocks.now c.args.scores.now) (length c.args.steps.now)
     (g.S.Source.laws c.args.source.now) c.in-Ok.ensures.answer
 
-pub overflow-mul-result : goal.overflow-mul-result
-overflow-mul-result g c = omega (arith, small g (goal.at.overflow-mul-result g c).In-Ok)
+pub overflow_mul-result : goal.overflow_mul-result
+overflow_mul-result g c = omega (arith, small g (goal.at.overflow_mul-result g c).In-Ok)
 
-pub overflow-add-result : goal.overflow-add-result
-overflow-add-result g c =
+pub overflow_add-result : goal.overflow_add-result
+overflow_add-result g c =
     let e = c.in-Ok.ensures in
-    let few = steps_small (meant g c.args.source.now) c.in-Ok.fit (works c.args.gaps.now c.args.blocks.now c.args.scores.now) c.args.steps.now c.fit-curve.new.steps e.answer e.steps c.fit-curve.auto.steps in
-    omega (arith, small g (goal.at.overflow-add-result g c).In-Ok, few, c.requires.steps)
+    let few = steps_small (meant g c.args.source.now) c.in-Ok.fit (works c.args.gaps.now c.args.blocks.now c.args.scores.now) c.args.steps.now c.fit_curve.new.steps e.answer e.steps c.fit_curve.auto.steps in
+    omega (arith, small g (goal.at.overflow_add-result g c).In-Ok, few, c.requires.steps)
 
 pub returns-in-Ok : goal.returns-in-Ok
 returns-in-Ok g c =
