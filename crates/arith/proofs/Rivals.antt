@@ -1,5 +1,5 @@
 -- No rival is likelier than the fit: proof of specs/Rivals.antt.
-use Rattle.std.proofs.Common.{◌≡◌, ℕ, ◌+◌, ◌*◌, ◌/◌, ◌^◌, ◌<◌, ◌≤◌, List, [], ◌∷◌, ◌++◌, map, length, take, drop, sym, refl, ap, ◌∙◌, le_of_eq, le_of_suc-le-suc, not-suc-le-zero, mul-le-mul_right, mul_assoc, le_of_mul-le-mul_right, arith, length-append, length-drop}
+use Rattle.std.proofs.Common.{◌≡◌, ℕ, ◌*◌, ◌/◌, ◌^◌, ◌<◌, ◌≤◌, List, [], ◌∷◌, ◌++◌, map, length, take, drop, sym, refl, ap, ◌∙◌, le_of_eq, le_of_suc-le-suc, not-suc-le-zero, mul-le-mul_right, mul_assoc, le_of_mul-le-mul_right, arith, length-append, length-drop}
 use mathlib.Core.List.{map-map}
 use native.Mathlib.Nat.{one-le-pow}
 use Rattle.std.specs.List.{zip, AllByRecursion as All}

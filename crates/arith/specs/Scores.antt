@@ -1,5 +1,5 @@
 -- The score of a fit: the scaled logarithm of its product, by the logarithm in whole numbers, and how well it tells products apart.
-use Rattle.std.specs.Prelude.{◌≡◌, ℕ, ◌-◌, ◌^◌, ◌<◌, ◌≤◌, List, [], ◌∷◌, ℤ, pos, ◌+ℤ◌, ◌-ℤ◌, ◌*ℤ◌, ◌≤ℤ◌}
+use Rattle.std.specs.Prelude.{◌≡◌, ℕ, ◌-◌, ◌^◌, ◌<◌, List, [], ◌∷◌, ℤ, pos, ◌+ℤ◌, ◌-ℤ◌, ◌*ℤ◌, ◌≤ℤ◌}
 use Rattle.std.specs.List.{AllByRecursion as All}
 use Rattle.arith.specs.Fractions.{AtMostTimes}
 use Rattle.arith.specs.Log.{scaled_log2}

@@ -1,10 +1,8 @@
 -- Pieces put on a stack that keeps their rates falling.
-use Rattle.std.proofs.Common.{◌≡◌, ℕ, ◌+◌, ◌<◌, ◌≤◌, List, [], ◌∷◌, map, length, drop, Some, None, Option, sym, refl, ap, ◌∙◌, arith}
-use Rattle.std.proofs.lemmas.List.{length-map}
+use Rattle.std.proofs.Common.{◌≡◌, ℕ, ◌+◌, ◌<◌, ◌≤◌, List, [], ◌∷◌, map, length, drop, Some, None, Option, refl, ap, ◌∙◌, arith}
 use Rattle.std.proofs.lemmas.Bool.{lt-ltb, cond-true}
-use Rattle.units.specs.Refusals.{Refused, refused}
+use Rattle.units.specs.Refusals.{Refused}
 use Rattle.isotonic.specs.declared.blocks.Block.{Block}
-use Rattle.isotonic.specs.MaxMin.{on_element}
 use Rattle.isotonic.specs.Stacks.{lone, pushed, stack_in, top_of, laid_in}
 use Rattle.isotonic.specs.Theorems.{turned}
 use Rattle.isotonic.proofs.Fronts.{pushed_any}

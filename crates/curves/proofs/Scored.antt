@@ -1,10 +1,9 @@
 -- The scores of the piles of a table are those of its sides.
-use Rattle.std.proofs.Common.{◌≡◌, ℕ, suc, ◌+◌, ◌-◌, ◌<◌, ◌≤◌, List, [], ◌∷◌, map, reverse, length, get_or, take, ℤ, ◌+ℤ◌, sum_by, sym, refl, ap, ◌∙◌, subst, arith}
+use Rattle.std.proofs.Common.{◌≡◌, ℕ, ◌+◌, ◌-◌, ◌<◌, ◌≤◌, List, [], ◌∷◌, map, reverse, length, get_or, take, ℤ, ◌+ℤ◌, sum_by, sym, refl, ap, ◌∙◌, subst, arith}
 use Rattle.std.proofs.lemmas.List.Sums.{sum_by-take-le}
-use Rattle.arith.specs.Rivals.{falling}
 use Rattle.isotonic.specs.declared.blocks.Block.{Block}
 use Rattle.isotonic.specs.Laws.{limit, Commutes}
-use Rattle.isotonic.specs.MaxMin.{falling_blocks, rising_blocks}
+use Rattle.isotonic.specs.MaxMin.{rising_blocks}
 use Rattle.isotonic.specs.Stacks.{stacked, mirrored}
 use Rattle.isotonic.specs.Theorems.{turned}
 use Rattle.isotonic.proofs.Falling.{falling_turns}
@@ -22,7 +21,7 @@ use Rattle.curves.specs.declared.side.Side.{Side}
 use Rattle.curves.specs.declared.side.Side.TheVariants.{Left, Right}
 use Rattle.curves.proofs.Best.{best_same}
 use Rattle.curves.proofs.Parts.{rate_laws}
-use Rattle.curves.proofs.Passes.{front, score_at, score_fits}
+use Rattle.curves.proofs.Passes.{score_at, score_fits}
 use Rattle.curves.proofs.Rows.{row_length, row_take, row_at, row_reverse}
 
 pub rates_commute : Commutes rate_joined rate_bulk

@@ -1,5 +1,5 @@
 -- The steps of each turning gap join end to end, have the max-min values, fall strictly on the left and rise strictly on the right.
-use Rattle.std.proofs.Common.{◌≡◌, ℕ, zero, suc, ◌+◌, ◌-◌, ◌≤◌, eqb, List, [], ◌∷◌, ◌++◌, map, length, sym, refl, ap, ◌∙◌, subst, subst₂, arith}
+use Rattle.std.proofs.Common.{◌≡◌, ℕ, suc, ◌+◌, ◌-◌, ◌≤◌, eqb, List, [], ◌∷◌, ◌++◌, map, length, sym, refl, ap, ◌∙◌, subst, subst₂, arith}
 use Rattle.std.specs.List.{AllByRecursion as All}
 use Rattle.std.proofs.ByRecursion.{All-weaker}
 use Rattle.std.proofs.lemmas.List.{get_or_past, length-map}
@@ -11,7 +11,7 @@ use Rattle.pooling.specs.Kinds.{rate_leq}
 use Rattle.pooling.specs.declared.rates.Rate.{Rate}
 use Rattle.sources.specs.Ages.{oldest}
 use Rattle.sources.specs.Counts.{Counts}
-use Rattle.curves.specs.Pieces.{row, age, left_piece, right_piece, left_pieces, right_pieces, rate_of}
+use Rattle.curves.specs.Pieces.{age, left_piece, right_piece, left_pieces, right_pieces, rate_of}
 use Rattle.curves.specs.Curves.{Step, left_blocks, right_blocks, block_step, trough_steps, steps, counted_ages, left_of, right_of, left_blocks_of, right_blocks_of}
 use Rattle.curves.specs.Rivals.{Allowed}
 use Rattle.curves.specs.Theorems.{WholePiece, Joins, HasValues, StepsJoin, StepsTurn, ValuesStand, pooled_left, pooled_right}

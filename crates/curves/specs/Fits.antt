@@ -1,11 +1,10 @@
 -- What a fit answers, and what the memory lent to it holds afterwards.
-use Rattle.std.specs.Prelude.{ℕ, suc, min, List, ◌++◌, map, length, take, drop, ℤ, Option, Result}
+use Rattle.std.specs.Prelude.{ℕ, suc, min, List, ◌++◌, map, length, take, drop, Option, Result}
 use Rattle.units.specs.Refusals.{Refused}
 use Rattle.pooling.specs.Pooling.{answered, unless_refused, left_to_builder, written}
 use Rattle.sources.specs.Counts.{Counts}
 use Rattle.curves.specs.Curves as plain
 use Rattle.curves.specs.Curves.{Curve, counted_ages, curve, fit_refusal}
-use Rattle.curves.specs.Tables.{table_score}
 use Rattle.curves.specs.declared.fits.Fit.{Fit}
 use Rattle.curves.specs.declared.fits.Work.{Work}
 use Rattle.curves.specs.declared.shapes.Shape.{Shape}

@@ -1,5 +1,5 @@
 -- The form of hours by its parts, and that every text of that form is read as a float.
-use Rattle.std.proofs.Common.{◌≡◌, ℕ, ◌+◌, ◌-◌, ◌<◌, Bool, true, false, ◌||◌, eqb, ltb, List, [], ◌∷◌, length, take, drop, IsUtf8, sym, refl, ap, ◌∙◌, inl, inr, one-add, arith}
+use Rattle.std.proofs.Common.{◌≡◌, ℕ, ◌-◌, ◌<◌, Bool, true, false, ◌||◌, eqb, ltb, List, [], ◌∷◌, length, take, drop, IsUtf8, sym, refl, ap, ◌∙◌, inl, inr, one-add, arith}
 use Rattle.std.specs.Float.Parse.{is_float_text, is_infinity_text, is_nan_text, completes_number, without_sign}
 use Rattle.std.specs.Char.{is_ascii_digit}
 use Rattle.std.specs.List.{prefix_len, AllByRecursion as All}

@@ -1,14 +1,14 @@
 -- From what the two writes do to memory to what entering and striking say of the plain list.
-use Rattle.std.proofs.Common.{◌≡◌, ℕ, ◌+◌, ◌<◌, ◌≤◌, min, Bool, true, false, cond, not, ltb, List, map, length, get_or, take, set, is_ok, Ok, Err, Result, sym, refl, ap, ◌∙◌, ⊎_elim, arith, MatchResult}
+use Rattle.std.proofs.Common.{◌≡◌, ℕ, ◌<◌, true, false, not, get_or, set, is_ok, Ok, Err, Result, sym, ap, ◌∙◌, ⊎_elim, arith, MatchResult}
 use Rattle.std.proofs.lemmas.Bool.{true≢false, cond-true, cond-false, cases_lt, lt-ltb, le-ltb}
 use Rattle.units.specs.declared.refusals.Refusal.{Refusal}
 use Rattle.units.specs.Refusals.{Refused, answer}
 use Rattle.lives.specs.declared.types.Life.{Life}
 use Rattle.lives.specs.declared.types.Place.{Place}
 use Rattle.lives.specs.declared.studies.OpenStudy.{OpenStudy}
-use Rattle.lives.specs.Lives.{PlainLife, plain, plain_life}
+use Rattle.lives.specs.Lives.{PlainLife, plain_life}
 use Rattle.lives.specs.Memory.{Put, NotPut, Marked, NotMarked, room_in, struck_place, unstruck_place}
-use Rattle.lives.specs.Studies.{Held, held, held_in, has_place, enter_answer, enter_after, strike_answer, strike_after, unstruck_at}
+use Rattle.lives.specs.Studies.{held, held_in, has_place, enter_answer, enter_after, strike_answer, strike_after, unstruck_at}
 use Rattle.lives.proofs.Places.{any_place, length_used, has_place_is, held_entered, unstruck_in, unstruck_past, held_struck}
 
 -- what an entry promises, with the life as it was judged

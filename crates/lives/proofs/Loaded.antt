@@ -1,5 +1,5 @@
 -- What a load promises, on each way through it.
-use Rattle.std.proofs.Common.{◌≡◌, ℕ, ◌+◌, ◌<◌, ◌≤◌, min, Bool, true, false, cond, eqb, leb, List, [], map, length, drop, is_ok, Ok, Err, Result, sym, refl, ap, ◌∙◌, arith}
+use Rattle.std.proofs.Common.{◌≡◌, ℕ, ◌<◌, ◌≤◌, true, false, eqb, leb, List, map, length, drop, is_ok, Ok, Err, Result, sym, refl, ap, ◌∙◌, arith}
 use Rattle.std.proofs.lemmas.List.{drop-map}
 use Rattle.std.proofs.lemmas.Bool.{true≢false, false≢true, cond-true, cond-false, eq-eqb, ne_eqb, le-leb, lt-leb}
 use Rattle.units.specs.declared.refusals.Refusal.{Refusal}
@@ -7,8 +7,7 @@ use Rattle.units.specs.declared.refusals.Refusal.TheVariants.{StudyInUse, NoPlac
 use Rattle.units.specs.Refusals.{Refused, answer, told}
 use Rattle.lives.specs.declared.studies.OpenStudy.{OpenStudy}
 use Rattle.lives.specs.Lives.{PlainPlace, plain}
-use Rattle.lives.specs.Memory.{room_in}
-use Rattle.lives.specs.Studies.{Held, held, room, most_places}
+use Rattle.lives.specs.Studies.{held, room}
 use Rattle.lives.specs.Archive.{archive_of}
 use Rattle.lives.specs.Decode.{Checked, decode, places_from, load_after, load_answer, room_after, room_answer}
 use Rattle.lives.proofs.Decoded.{length_read}

@@ -1,5 +1,5 @@
 -- The places of a study in its memory, after an entry and after a striking.
-use Rattle.std.proofs.Common.{◌≡◌, ℕ, zero, suc, ◌+◌, ◌<◌, ◌≤◌, min, Bool, true, false, cond, not, ltb, List, [], ◌∷◌, ◌++◌, map, length, get_or, take, drop, set, sym, refl, ap, ◌∙◌, le_of_suc-le-suc, not-suc-le-zero, arith, lit<, lit≤}
+use Rattle.std.proofs.Common.{◌≡◌, ℕ, zero, suc, ◌+◌, ◌<◌, ◌≤◌, min, true, false, not, ltb, List, [], ◌∷◌, ◌++◌, map, length, get_or, take, drop, set, sym, refl, ap, ◌∙◌, le_of_suc-le-suc, not-suc-le-zero, arith, lit<, lit≤}
 use Rattle.std.proofs.lemmas.List.{take_more_set, map_push, length-map, length-take-le, length-drop, drop-set-lt, drop-map, drop-drop}
 use Rattle.lives.specs.declared.types.Place.{Place}
 use Rattle.lives.specs.declared.types.Status.TheVariants.{Running}

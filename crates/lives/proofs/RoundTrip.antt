@@ -1,5 +1,5 @@
 -- What is written reads back, and nothing else is read.
-use Rattle.std.proofs.Common.{◌≡◌, ℕ, zero, suc, ◌+◌, ◌-◌, ◌*◌, ◌%◌, ◌^◌, ◌<◌, ◌≤◌, Bool, true, false, cond, ◌&&◌, eqb, ltb, leb, List, [], ◌∷◌, ◌++◌, map, length, get_or, take, drop, IfOk, Ok, Err, Result, sym, refl, ap, ◌∙◌, append_assoc, add-zero, arith, length-append}
+use Rattle.std.proofs.Common.{◌≡◌, ℕ, zero, suc, ◌+◌, ◌-◌, ◌*◌, ◌%◌, ◌^◌, ◌<◌, ◌≤◌, Bool, true, false, leb, List, [], ◌∷◌, ◌++◌, map, length, get_or, take, drop, IfOk, Ok, Err, Result, sym, refl, ap, ◌∙◌, append_assoc, add-zero, arith, length-append}
 use Rattle.std.specs.List.{flat_map}
 use Rattle.std.proofs.lemmas.List.{length-map, take_at, get_or_at, get_or-drop, drop-drop, drop_more, drop_all}
 use Rattle.std.proofs.lemmas.Bool.{le-leb, lt-ltb, ltb-true, eqb-true, eq-eqb, and_from, and_parts, cond-true}
@@ -10,7 +10,7 @@ use Rattle.lives.specs.declared.types.Place.{Place}
 use Rattle.lives.specs.declared.types.Status.{Status}
 use Rattle.lives.specs.declared.types.Status.TheVariants.{Failed, Withdrawn, Running}
 use Rattle.lives.specs.Archive.{word_of, kind_of, payload_of, check_of, status_mark, place_words, body, archive_of, archive_length, write_answer, write_after}
-use Rattle.lives.specs.Decode.{serial_word, entry_word, exit_word, status_mark_word, place_from, places_from, join_place, counted, length_right, frame_of, check_right, checked, decode}
+use Rattle.lives.specs.Decode.{serial_word, entry_word, exit_word, status_mark_word, place_from, places_from, join_place, counted, check_right, checked, decode}
 use Rattle.lives.specs.Lives.{PlainPlace, plain, status_of}
 use Rattle.lives.specs.Studies.{most_places}
 use Rattle.lives.specs.RoundTrip.{ReadsBack, OnlyWritten}

@@ -1,9 +1,9 @@
 -- What taking over a sealed study promises, on each way through it.
-use Rattle.std.proofs.Common.{◌≡◌, ℕ, ◌<◌, ◌≤◌, min, Bool, true, false, cond, ◌&&◌, eqb, leb, List, ◌++◌, map, length, drop, Ok, Err, Result, sym, refl, ap, ◌∙◌, subst, inl, inr, arith}
+use Rattle.std.proofs.Common.{◌≡◌, ℕ, ◌<◌, ◌≤◌, Bool, true, false, cond, leb, List, length, Ok, Err, Result, sym, refl, ap, ◌∙◌, subst, inl, inr, arith}
 use Rattle.std.proofs.lemmas.Bool.{cond-true, cond-false, and_from, and_left, and_right, le-leb, lt-leb}
 use Rattle.units.specs.declared.refusals.Refusal.{Refusal}
 use Rattle.units.specs.declared.refusals.Refusal.TheVariants.{StudyInUse, NoPlaceLeft}
-use Rattle.units.specs.Refusals.{Refused, refused, answer, told}
+use Rattle.units.specs.Refusals.{refused, answer, told}
 use Rattle.lives.specs.declared.studies.OpenStudy.{OpenStudy}
 use Rattle.lives.specs.declared.studies.SealedStudy.{SealedStudy}
 use Rattle.lives.specs.Archive.{archive_length, write_after, write_answer}

@@ -1,9 +1,9 @@
 -- What the words hold while an archive is written.
-use Rattle.std.proofs.Common.{◌≡◌, ℕ, zero, suc, ◌+◌, ◌-◌, ◌*◌, ◌<◌, ◌≤◌, true, false, leb, List, [], ◌∷◌, ◌++◌, map, length, get_or, take, drop, set, sym, refl, ap, ◌∙◌, subst, append_assoc, arith}
+use Rattle.std.proofs.Common.{◌≡◌, ℕ, ◌+◌, ◌-◌, ◌*◌, ◌<◌, ◌≤◌, true, false, leb, List, [], ◌∷◌, ◌++◌, map, length, get_or, take, drop, set, sym, refl, ap, ◌∙◌, append_assoc, arith}
 use Rattle.std.proofs.lemmas.Bool.{le-leb, lt-leb}
 use borrow.Rule.Slice.PartMut.{put_mid}
 use Rattle.std.specs.List.{flat_map}
-use Rattle.std.proofs.lemmas.List.{length-map, length-set, length-take-le, take_at, drop_at, drop-drop, drop_more, drop-set-lt, set_at, flat_map_more, map_more, get_or_read, take_all}
+use Rattle.std.proofs.lemmas.List.{length-map, length-set, length-take-le, take_at, drop_at, drop-drop, drop_more, drop-set-lt, set_at, flat_map_more, map_more, take_all}
 use Rattle.lives.specs.declared.types.Place.{Place}
 use Rattle.lives.specs.Archive.{word_of, check_of, place_words, archive_of, archive_length}
 use Rattle.lives.specs.Lives.{PlainPlace, plain}

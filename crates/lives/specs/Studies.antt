@@ -1,5 +1,5 @@
 -- A study as a plain list of places, and what the calls answer and leave.
-use Rattle.std.specs.Prelude.{ℕ, zero, suc, ◌+◌, min, Bool, true, false, cond, not, List, [], ◌∷◌, ◌++◌, map, length, take, drop, Ok, Err, Result, nat_lt}
+use Rattle.std.specs.Prelude.{ℕ, zero, suc, ◌+◌, min, Bool, false, cond, not, List, [], ◌∷◌, ◌++◌, map, length, take, drop, Ok, Err, Result, nat_lt}
 use Rattle.units.specs.Refusals.{Refused, refused}
 use Rattle.lives.specs.declared.types.Place.{Place}
 use Rattle.lives.specs.declared.studies.OpenStudy.{OpenStudy}

@@ -1,15 +1,14 @@
 -- What is computed of hours is what is meant by them.
-use Rattle.std.proofs.Common.{◌≡◌, ℕ, ◌+◌, ◌*◌, ◌/◌, ◌%◌, ◌≤◌, Bool, true, false, cond, not, ◌&&◌, ◌||◌, eqb, leb, ◌⊎◌, Some, None, Ok, Err, Option, Result, sym, refl, ap, ◌∙◌, subst, inl, inr, div-add-mod', mul-div_cancel, arith, MatchOption, MatchResult}
+use Rattle.std.proofs.Common.{◌≡◌, ℕ, ◌+◌, ◌*◌, ◌/◌, ◌%◌, ◌≤◌, Bool, true, false, cond, not, ◌&&◌, ◌||◌, eqb, leb, ◌⊎◌, Some, None, Ok, Err, Option, sym, refl, ap, ◌∙◌, subst, inl, inr, div-add-mod', mul-div_cancel, arith, MatchOption, MatchResult}
 use native.Mathlib.Nat.{mul-mod_left}
 use lib.Ieee.{Float, nan, inf, fin, up, down}
 use lib.Ieee.Fits.{down_pos}
 use Rattle.std.specs.Option.{ok_or}
 use Rattle.std.proofs.lemmas.Bool.{le-leb, leb-true, eq-eqb, eqb-true, and_from, and_parts, cond-true}
 use Rattle.units.specs.declared.ages.Age.{Age}
-use Rattle.units.specs.declared.refusals.Refusal.{Refusal}
 use Rattle.units.specs.declared.refusals.Refusal.TheVariants.{NotQuarterHours}
 use Rattle.units.specs.Hours.{IsTicks, hours_age, age_ticks, last_tick}
-use Rattle.units.specs.Refusals.{Refused, refused, seen}
+use Rattle.units.specs.Refusals.{refused, seen}
 
 sign_back : (s : Bool) (m : ℕ) → (not s || eqb m 0) ≡ true → (s ≡ false) ⊎ (m ≡ 0)
 sign_back false m e = inl refl

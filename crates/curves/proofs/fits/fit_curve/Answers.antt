@@ -1,8 +1,8 @@
-use Rattle.std.proofs.Common.{◌≡◌, ℕ, suc, ◌+◌, ◌<◌, ◌≤◌, min, List, ◌++◌, map, length, take, drop, None, Ok, Option, sym, refl, ap, ◌∙◌, arith, w64, SFits, rules}
-use Rattle.std.proofs.lemmas.List.{length-map, drop-drop}
+use Rattle.std.proofs.Common.{◌≡◌, ℕ, ◌+◌, ◌<◌, min, List, map, length, take, None, Ok, Option, sym, ap, ◌∙◌, arith, w64, SFits, rules}
+use Rattle.std.proofs.lemmas.List.{length-map}
 use Rattle.std.proofs.lemmas.Int.{to_z-of_z}
 use Rattle.units.specs.Refusals.{Refused}
-use Rattle.pooling.specs.Pooling.{answered, unless_refused, left_to_builder, written}
+use Rattle.pooling.specs.Pooling.{answered, unless_refused, written}
 use Rattle.pooling.proofs.Answered.{accepted}
 use Rattle.sources.specs.Ages.{ages, oldest}
 use Rattle.sources.specs.Counts.{Counts}

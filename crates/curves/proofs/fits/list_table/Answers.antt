@@ -1,4 +1,4 @@
-use Rattle.std.proofs.Common.{ℕ, ◌-◌, length, sym, ap, ◌∙◌}
+use Rattle.std.proofs.Common.{ℕ, ◌-◌, ap, ◌∙◌}
 use Rattle.sources.specs.Ages.{oldest}
 use Rattle.sources.specs.Gaps.{gap}
 use Rattle.curves.specs.Tables.{gap_at}

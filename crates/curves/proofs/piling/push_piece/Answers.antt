@@ -1,4 +1,4 @@
-use Rattle.std.proofs.Common.{◌≡◌, Some, Option, sym, ap, ◌∙◌}
+use Rattle.std.proofs.Common.{Some, sym, ap, ◌∙◌}
 use Rattle.isotonic.specs.declared.blocks.Block.{Block}
 use Rattle.isotonic.specs.Stacks.{stack_in}
 use Rattle.pooling.specs.declared.rates.Rate.{Rate}

@@ -1,4 +1,4 @@
-use Rattle.std.proofs.Common.{◌≡◌, max, refl, ◌∙◌, arith}
+use Rattle.std.proofs.Common.{refl, arith}
 use Rattle.pooling.specs.Same.{same_rate}
 use Rattle.curves.specs.Pieces.{rate_of}
 use Rattle.curves.proofs.piling.rate_of.Goals as goal

@@ -1,4 +1,4 @@
-use Rattle.std.proofs.Common.{◌≡◌, ℕ, ◌+◌, drop}
+use Rattle.std.proofs.Common.{◌≡◌, ◌+◌, drop}
 use Rattle.curves.specs.Tables.{pile}
 use Rattle.curves.specs.declared.side.Side.TheVariants.{Left, Right}
 use Rattle.curves.proofs.Passes.{Piled, Passed, score_at}

@@ -1,6 +1,5 @@
-use Rattle.std.proofs.Common.{◌≡◌, ℕ, ◌+◌, ◌<◌, ◌≤◌, List, length, get_or, drop, set, ℤ, pos, ◌+ℤ◌, sym, refl, ap, ◌∙◌, subst, arith, length-set, get_or-set_same, rules}
+use Rattle.std.proofs.Common.{◌≡◌, ℕ, ◌+◌, ◌<◌, ◌≤◌, length, get_or, drop, set, pos, ◌+ℤ◌, sym, refl, ap, ◌∙◌, subst, arith, length-set, get_or-set_same, rules}
 use Rattle.std.proofs.lemmas.List.{drop-set-lt}
-use Rattle.pooling.specs.declared.rates.Rate.{Rate}
 use Rattle.pooling.specs.Scores.{Within, rate_score}
 use Rattle.pooling.proofs.Summed.{score_bound}
 use Rattle.curves.specs.Tables.{pile}

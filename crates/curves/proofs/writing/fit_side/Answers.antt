@@ -1,4 +1,4 @@
-use Rattle.std.proofs.Common.{◌≡◌, ◌≤◌, length, ◌∙◌, arith}
+use Rattle.std.proofs.Common.{◌≤◌, length, arith}
 use Rattle.curves.proofs.Aged.{fit_count, fit_inside, fit_light, fit_score, fit_steps, side_reach, side_within}
 use Rattle.curves.proofs.Laid.{drop_later}
 use Rattle.curves.proofs.writing.fit_side.Goals as goal

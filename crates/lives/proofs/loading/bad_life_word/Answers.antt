@@ -1,4 +1,4 @@
-use Rattle.std.proofs.Common.{◌≡◌, sym, ap, ◌∙◌, arith}
+use Rattle.std.proofs.Common.{sym, ap, ◌∙◌, arith}
 use Rattle.lives.specs.Decode.{error_of}
 use Rattle.lives.proofs.Reading.{step_bad, turn_error}
 use Rattle.lives.proofs.loading.bad_life_word.Goals as goal

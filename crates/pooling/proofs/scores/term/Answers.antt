@@ -1,4 +1,4 @@
-use Rattle.std.proofs.Common.{◌≡◌, ◌*◌, ℤ, pos, ◌-ℤ◌, ◌*ℤ◌, sym, ◌∙◌, subst, arith, w64, to_z, of_z}
+use Rattle.std.proofs.Common.{◌≡◌, ◌*◌, pos, ◌-ℤ◌, ◌*ℤ◌, sym, ◌∙◌, subst, arith, w64, to_z, of_z}
 use Rattle.arith.specs.Log.{squarings}
 use Rattle.arith.specs.Scores.{log_term}
 use Rattle.pooling.specs.Scores.{unit_bound, Within}

@@ -1,5 +1,5 @@
 use Rattle.std.proofs.Common.{arith}
-use Rattle.lives.proofs.Loaded.{in_use, damaged, no_room, loaded}
+use Rattle.lives.proofs.Loaded.{in_use, no_room, loaded}
 use Rattle.lives.proofs.studies.OpenStudy.load.Goals as goal
 
 pub returns-then-self-gt0 : goal.returns-then-self-gt0

@@ -1,6 +1,3 @@
-use Rattle.std.proofs.Common.{ℕ, sym, subst, MatchResult}
-use Rattle.units.specs.Hours.{IsTicks, age_ticks, hours_age}
-use Rattle.units.specs.Refusals.{seen}
 use Rattle.units.proofs.HoursMeant.{age_meant, age_exact}
 use Rattle.units.proofs.ages.Age.from_hours.Goals as goal
 
