@@ -4,7 +4,7 @@
     python3 reference/compare.py [LEDGERS [SEED]]
 
 It makes ledgers (sound lines, lines with errors, bytes that are no text, sound and damaged archives, lists to
-pool, benches, release sheets, long ledgers and long lines), gives each to target/bin/ledger (`rt check ledger`
+pool, benches, release sheets, long ledgers and long lines), gives each to crates/ledger/out/ledger (`rt run` in crates/ledger
 builds it) and to reference/ledger.py, and compares the answers byte for byte. It says how many it compared and
 which answers were met, and ends with status 1 where any differ.
 """
@@ -17,7 +17,7 @@ from fractions import Fraction
 
 import ledger
 
-PROGRAM = pathlib.Path(__file__).resolve().parent.parent / "target/bin/ledger"
+PROGRAM = pathlib.Path(__file__).resolve().parent.parent / "crates/ledger/out/ledger"
 AGES = [0, 1, 2, 3, 4, 2_097_149, 2_097_150, 2_097_151, 2_097_152, 2**32 - 1, 2**32]
 SERIALS = [0, 1, 7, 1001, 268_435_455, 268_435_456, 2**32 - 1, 2**32]
 HOURS = """0 -0 0.0 -0.000 0.25 0.5 1 1.75 2 0.1 0.3 -0.25 524287.75 524287.5 524288 524287.7500000000000000001

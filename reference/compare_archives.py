@@ -17,7 +17,7 @@ from pathlib import Path
 
 from archive import Life, Refusal, STATUS, check_word, read_archive
 
-PROGRAM = Path(__file__).resolve().parent.parent / "target/bin/ledger"
+PROGRAM = Path(__file__).resolve().parent.parent / "crates/ledger/out/ledger"
 COUNT = 10_000
 SEED = 1
 BATCH = 500  # archives in one run of the program

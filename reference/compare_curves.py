@@ -13,11 +13,11 @@ import subprocess
 import sys
 import tempfile
 
-import compare
 import ledger
 
 SOURCE = pathlib.Path(__file__).resolve().parent.parent / "benchmarks/curves.c"
 MOST = 1024
+LAST_AGE = 2_097_151
 NUMBER = ctypes.c_uint32
 
 
@@ -60,11 +60,35 @@ def in_reference(units, stop, ages):
         return None
 
 
+def failure_ages(rng):
+    """Ages for a curve, in order: with ties, evenly spaced, all the same, or near the highest age."""
+    length = rng.choice([0, 1, 2, 3, 3, 4, 5, 6, 8, 8, 12, 16, 40 if rng.random() < 0.3 else 7])
+    change = rng.randrange(8)
+    if change == 0:
+        ages = [rng.choice([1, 2, 7, LAST_AGE - 1, LAST_AGE, rng.randint(1, LAST_AGE)])] * length
+    elif change == 1:
+        every = rng.choice([1, 2, 3, 1000, LAST_AGE // max(length, 1)])
+        ages = [(i + 1) * every for i in range(length)]
+    elif change in (2, 6):  # the same gaps from both ends
+        gaps = [rng.randint(1, 4) for _ in range((length + 1) // 2)]
+        gaps = gaps + gaps[::-1][rng.randrange(2):]
+        ages = [sum(gaps[:i + 1]) for i in range(len(gaps))]
+    elif change == 3:
+        ages = [LAST_AGE - rng.choice([0, 1, 2, rng.randrange(40)]) for _ in range(length)]
+    elif change == 4:
+        ages = rng.sample(range(1, LAST_AGE + 1), length)
+    elif change == 5:  # many early, few, many late
+        ages = [rng.choice([rng.randint(1, 10), rng.randint(1, 100), rng.randint(90, 100)]) for _ in range(length)]
+    else:
+        ages = [rng.randint(1, rng.choice([3, 6, 12, 40])) for _ in range(length)]
+    return sorted(ages)
+
+
 def bench(rng):
     """Units, stop and ages of a sound bench."""
-    ages = compare.Maker(rng).ages() if rng.random() < 0.7 else sorted(rng.choices(range(1, 30), k=rng.randint(1, 20)))
+    ages = failure_ages(rng) if rng.random() < 0.7 else sorted(rng.choices(range(1, 30), k=rng.randint(1, 20)))
     last = ages[-1] if ages else 1
-    stop = rng.choice([last, min(last + rng.randint(0, 9), compare.LAST_AGE), compare.LAST_AGE])
+    stop = rng.choice([last, min(last + rng.randint(0, 9), LAST_AGE), LAST_AGE])
     return max(1, len(ages) + rng.choice([0, 0, 1, 2, rng.randint(0, MOST - len(ages))])), stop, ages
 
 

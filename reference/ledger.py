@@ -7,6 +7,7 @@ itself, tried over all runs of pieces.
 """
 import re
 import sys
+from collections import Counter
 from fractions import Fraction
 from itertools import groupby
 from math import ceil
@@ -145,6 +146,9 @@ class Study:
             raise Refused(13)
         return words
 
+    def watches(self):
+        return [(entry, exit, status == 0) for _, entry, exit, status, struck in self.lives if not struck]
+
     def load(self, words):
         if self.lives:
             raise Refused(5)
@@ -190,8 +194,8 @@ def decode(words):
 
 # ---- fits
 
-def rising(pieces):
-    """The blocks of the rising fit, each (first, last, above, below).
+def rising_values(pieces):
+    """The values of the rising fit.
 
     The value at i is the greatest, over a <= i, of the least, over b >= i, of the ratio of a to b pooled.
     """
@@ -205,11 +209,34 @@ def rising(pieces):
         for i in reversed(range(a, len(pieces))):
             least = min(least, ratios[i - a])
             values[i] = max(values[i], least)
-    blocks = []
+    return values
+
+
+def falling_values(pieces):
+    """The values of the falling fit.
+
+    The value at i is the greatest, over b >= i, of the least, over a <= i: the rising rule, read from the end.
+    """
+    return rising_values(pieces[::-1])[::-1]
+
+
+def blocks(pieces, values):
+    """The longest runs of pieces with equal values, each (first, last, above, below)."""
+    made = []
     for _, run in groupby(range(len(pieces)), lambda i: values[i]):
         run = list(run)
-        blocks.append((run[0], run[-1], sum(pieces[i][0] for i in run), sum(pieces[i][1] for i in run)))
-    return blocks
+        made.append((run[0], run[-1], sum(pieces[i][0] for i in run), sum(pieces[i][1] for i in run)))
+    return made
+
+
+def rising(pieces):
+    """The blocks of the rising fit."""
+    return blocks(pieces, rising_values(pieces))
+
+
+def falling(pieces):
+    """The blocks of the falling fit."""
+    return blocks(pieces, falling_values(pieces))
 
 
 def pool(kind, pieces, room):
@@ -240,6 +267,10 @@ def share_score(successes, trials):
     return sum(part * (S(part) - S(trials)) for part in (successes, trials - successes) if part > 0)
 
 
+def rate_score(failures, exposure):
+    return failures * (S(failures) - S(exposure)) if failures > 0 else 0
+
+
 class Releases:
     """The release sheet: for each row its successes and trials."""
 
@@ -268,6 +299,13 @@ class Bench:
         self.good = (1 <= units <= MOST_UNITS and 1 <= stop <= LAST_AGE and len(ages) <= units
                      and ages == sorted(ages) and all(1 <= age <= stop for age in ages))
 
+    def watches(self):
+        """A unit that fails is watched until its failure, any other until the stop; none of a void bench."""
+        if not self.good:
+            return []
+        survivors = self.units - len(self.ages)
+        return [(0, age, True) for age in self.ages] + [(0, self.stop, False)] * survivors
+
     def bound(self, percentiles):
         """percentile / (2 * total time on test), for a million unit-ticks, rounded up."""
         if not self.good or not self.ages:
@@ -279,6 +317,47 @@ class Bench:
         total = sum(self.ages) + (self.units - len(self.ages)) * self.stop
         bound = Fraction(percentiles[len(self.ages) - 1], 1000) / (2 * total) * 1_000_000
         return ceil(bound)
+
+
+# ---- curves
+
+def turned_at(j, ages, failures, exposures):
+    """The curve with turning gap j: its score, j, and its steps.
+
+    ages[i] is Xi for i from 0 to k, and ages[k + 1] the oldest age; failures[i] is di, exposures[i] is Ti.
+    """
+    k = len(ages) - 2
+    left = [(failures[i], exposures[i]) for i in range(1, j)]
+    right = [(failures[i], exposures[i + 1]) for i in range(j, k + 1)]
+    before = [(ages[a], ages[b + 1], d, t) for a, b, d, t in falling(left)]
+    after = [(ages[j + a], ages[j + b + 1], d, t) for a, b, d, t in rising(right)]
+    trough = [(ages[j - 1], ages[j], 0, exposures[j])] if ages[j - 1] < ages[j] else []
+    score = sum(rate_score(d, t) for _, _, d, t in before + after)
+    return score, j, before + trough + after
+
+
+def fit(shape, watches, steps_room, work_room):
+    """The curve fitted to units, each watched for entry < t <= exit, and failing at its exit or not.
+
+    Gives the steps, the turning gap, the score, the failures counted and set aside, and the total time on test.
+    """
+    oldest = max((exit for _, exit, _ in watches), default=0)
+    at = Counter(exit for _, exit, failed in watches if failed)
+    aside = 0 if shape == b"falling" else at.pop(oldest, 0)
+    k = len(at)
+    if k == 0:
+        raise Refused(12)
+    if steps_room < k + 1 or work_room < k + 1:
+        raise Refused(13)
+    ages = [0] + sorted(at) + [oldest]
+    failures = [at[age] for age in ages]
+    exposures = [0] + [sum(max(0, min(exit, to) - max(entry, start)) for entry, exit, _ in watches)
+                       for start, to in zip(ages, ages[1:])]
+    turns = {b"falling": [k + 1], b"rising": [1], b"ushaped": range(1, k + 2)}[shape]
+    curves = [turned_at(j, ages, failures, exposures) for j in turns]
+    score, j, steps = max(curves, key=lambda curve: curve[0])  # the earliest of the greatest
+    total = sum(exit - entry for entry, exit, _ in watches)
+    return steps, j, score, sum(at.values()), aside, total
 
 
 # ---- lines

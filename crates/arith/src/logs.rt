@@ -1,6 +1,6 @@
 // The base-2 logarithm in whole numbers, by repeated squaring.
 ghost use Rattle.std.specs.Prelude.{◌≡◌, ◌+◌, ◌*◌, ◌%◌, ◌^◌, ◌<◌, ◌≤◌};
-ghost use Rattle.arith.specs.Log.{squarings, top_bit, mantissa as mantissa-of, noted, squared, bits as bits_of, S};
+ghost use Rattle.arith.specs.Log.{squarings, top_bit, mantissa as mantissa_of, noted, squared, bits as bits_of, S};
 
 // How often the logarithm squares, which is how many binary digits it keeps after the point.
 pub const SQUARINGS: u32 = 16;
@@ -46,7 +46,7 @@ impl Expansion {
 // n moved up until its top bit stands at the top place, where no bit of a u32 is lost.
 fn moved_up(n: u32) -> u64
     requires { 0 < n }
-    ensures { result ≡ mantissa-of n % 2 ^ 32 }
+    ensures { result ≡ mantissa_of n % 2 ^ 32 }
 {
     (n << n.leading_zeros()) as u64
 }
@@ -54,7 +54,7 @@ fn moved_up(n: u32) -> u64
 // The bits that the squarings of n note.
 fn fraction_bits(n: u32) -> u32
     requires { 0 < n }
-    ensures value { result ≡ bits_of squarings (mantissa-of n) 0 }
+    ensures value { result ≡ bits_of squarings (mantissa_of n) 0 }
     ensures small { result < 2 ^ squarings }
 {
     let mut at = Expansion {
@@ -70,7 +70,7 @@ fn fraction_bits(n: u32) -> u32
 // The logarithm of a number from 1 on.
 fn positive_log2(n: u32) -> u32
     requires { 0 < n }
-    ensures { result ≡ 2 ^ squarings * top_bit n + bits_of squarings (mantissa-of n) 0 }
+    ensures { result ≡ 2 ^ squarings * top_bit n + bits_of squarings (mantissa_of n) 0 }
 {
     let place = TOP - n.leading_zeros();
     SCALE * place + fraction_bits(n)
