@@ -2,7 +2,7 @@
 -- no rates that expect no more failures than were counted have a larger product than the blocks' own.
 use Rattle.std.proofs.Common.{◌≡◌, ℕ, suc, ◌+◌, ◌*◌, ◌^◌, ◌<◌, ◌≤◌, List, [], ◌∷◌, take, ap, le_trans, le_refl, mul-le-mul_right, mul-le-mul, mul-le-mul_left, arith}
 use native.Mathlib.Nat.{le_dest, pow-le-pow_left, le_of_mul-le-mul_left}
-use Rattle.std.specs.List.{AllByRecursion as All}
+use Rattle.std.specs.List.{AllByRecursion}
 use Rattle.arith.specs.Sums.{total, product}
 use Rattle.arith.specs.Rivals.{Direction, along, pieces, Next, Chain}
 use Rattle.arith.proofs.Powers.{mul_pow, pow_self_pos}
@@ -72,13 +72,13 @@ module _ {X : Type 0} (d t a : X → ℕ) where
       cancel : (n y p m w : ℕ) → n * p ≤ m → y * m ≤ n * w → 0 < n → y * p ≤ w
       cancel n y p m w h g pos = le_of_mul-le-mul_left {k = n} (omega (arith, mul-le-mul_left y h)) pos
 
-  in_blocks : (bs : List (List X)) → All Follows bs
+  in_blocks : (bs : List (List X)) → AllByRecursion Follows bs
       → product (λ b. total t b ^ total d b * product (λ x. a x ^ d x) b) bs ≤ product (λ b. total (λ x. a x * t x) b ^ total d b) bs
   in_blocks [] f = le_refl 1
   in_blocks (b ∷ bs) f = mul-le-mul (in_block b f.0) (in_blocks bs f.1)
 
   -- the product over all blocks, where the rates are in units of 1 / q
-  pub blocks_best : (bs : List (List X)) (q : ℕ) → All Follows bs → total (λ x. a x * t x) (pieces bs) ≤ q * total d (pieces bs)
+  pub blocks_best : (bs : List (List X)) (q : ℕ) → AllByRecursion Follows bs → total (λ x. a x * t x) (pieces bs) ≤ q * total d (pieces bs)
       → product (λ b. total t b ^ total d b) bs * product (λ x. a x ^ d x) (pieces bs) ≤ product (λ b. total d b ^ total d b) bs * q ^ total d (pieces bs)
   blocks_best bs q f h =
       rw (product_pieces (λ x. a x ^ d x) bs, total_pieces d bs)

@@ -1,35 +1,35 @@
 -- Lists read in a direction, and what holds of each element and of neighbours.
 use Rattle.std.proofs.Common.{◌≡◌, ℕ, List, [], ◌∷◌, ◌++◌, map, reverse, refl}
 use mathlib.Core.List.{reverse_aux, reverse-append, reverse-cons}
-use Rattle.std.specs.List.{AllByRecursion as All}
+use Rattle.std.specs.List.{AllByRecursion}
 use Rattle.std.proofs.ByRecursion.{All-append}
 use Rattle.arith.specs.Sums.{total}
 use Rattle.arith.specs.Rivals.{Direction, falling, rising, along, pieces, Next, Chain}
 use Rattle.arith.proofs.Sums.{total_reverse}
 
 module _ {X : Type 0} (P : X → Type 0) where
-  pub all_left : (xs ys : List X) → All P (xs ++ ys) → All P xs
+  pub all_left : (xs ys : List X) → AllByRecursion P (xs ++ ys) → AllByRecursion P xs
   all_left [] ys h = tt
   all_left (x ∷ xs) ys h = (h.0, all_left xs ys h.1)
 
-  pub all_right : (xs ys : List X) → All P (xs ++ ys) → All P ys
+  pub all_right : (xs ys : List X) → AllByRecursion P (xs ++ ys) → AllByRecursion P ys
   all_right [] ys h = h
   all_right (x ∷ xs) ys h = all_right xs ys h.1
 
-  pub all_reverse : (xs : List X) → All P xs → All P (reverse xs)
+  pub all_reverse : (xs : List X) → AllByRecursion P xs → AllByRecursion P (reverse xs)
   all_reverse [] h = tt
   all_reverse (x ∷ xs) h = rw reverse-cons (All-append P (reverse xs) (x ∷ []) (all_reverse xs h.1) (h.0, tt))
 
-  pub all_along : (direction : Direction) (xs : List X) → All P xs → All P (along direction xs)
+  pub all_along : (direction : Direction) (xs : List X) → AllByRecursion P xs → AllByRecursion P (along direction xs)
   all_along falling xs h = h
   all_along rising xs h = all_reverse xs h
 
   -- a chain in R is one in S, where R says S of elements of which P holds
-  pub chain_weaker : (R S : X → X → Type 0) → ((x y : X) → P x → P y → R x y → S x y) → (xs : List X) → All P xs → Chain R xs → Chain S xs
+  pub chain_weaker : (R S : X → X → Type 0) → ((x y : X) → P x → P y → R x y → S x y) → (xs : List X) → AllByRecursion P xs → Chain R xs → Chain S xs
   chain_weaker R S f [] h c = tt
   chain_weaker R S f (x ∷ xs) h c = (next xs h.1 c.0, chain_weaker R S f xs h.1 c.1)
     where
-      next : (ys : List X) → All P ys → Next R x ys → Next S x ys
+      next : (ys : List X) → AllByRecursion P ys → Next R x ys → Next S x ys
       next [] g n = tt
       next (y ∷ ys) g n = f x y h.0 g.0 n
 
@@ -47,7 +47,7 @@ module _ {X : Type 0} (R : X → X → Type 0) where
   chain_right (x ∷ xs) ys h = chain_right xs ys h.1
 
   -- each block of a chain is a chain
-  pub chain_blocks : (direction : Direction) (bs : List (List X)) → Chain R (along direction (pieces bs)) → All (λ b. Chain R (along direction b)) bs
+  pub chain_blocks : (direction : Direction) (bs : List (List X)) → Chain R (along direction (pieces bs)) → AllByRecursion (λ b. Chain R (along direction b)) bs
   chain_blocks direction [] h = tt
   chain_blocks falling (b ∷ bs) h = (chain_left b (pieces bs) h, chain_blocks falling bs (chain_right b (pieces bs) h))
   chain_blocks rising (b ∷ bs) h =
@@ -66,7 +66,7 @@ module _ {X Y : Type 0} (g : X → Y) where
   along_map falling xs = refl
   along_map rising xs = reverse_map xs
 
-  pub all_unmap : (P : Y → Type 0) (xs : List X) → All P (map g xs) → All (λ x. P (g x)) xs
+  pub all_unmap : (P : Y → Type 0) (xs : List X) → AllByRecursion P (map g xs) → AllByRecursion (λ x. P (g x)) xs
   all_unmap P [] h = tt
   all_unmap P (x ∷ xs) h = (h.0, all_unmap P xs h.1)
 

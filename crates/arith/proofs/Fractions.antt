@@ -1,7 +1,7 @@
 -- A sum of fractions over one common denominator.
 use Rattle.std.proofs.Common.{◌≡◌, ℕ, ◌+◌, ◌*◌, ◌/◌, ◌<◌, ◌≤◌, List, [], ◌∷◌, sym, refl, ap, ◌∙◌, mul-le-mul_right, mul_comm, mul-pos, le_of_mul-le-mul_right, arith}
 use native.Mathlib.Nat.{eq_of_mul-eq-mul_left, div-eq_of_eq-mul_left}
-use Rattle.std.specs.List.{AllByRecursion as All}
+use Rattle.std.specs.List.{AllByRecursion}
 use Rattle.arith.specs.Sums.{total, product}
 use Rattle.arith.specs.Fractions.{Fraction, sum}
 use Rattle.arith.proofs.Sums.{product_pos}
@@ -24,14 +24,14 @@ module _ {X : Type 0} (f : X → Fraction) where
   sum_denominator (x ∷ xs) = ap (λ z. (f x).denominator * z) (sum_denominator xs)
 
   -- each denominator divides the product of all
-  divides : (Q : ℕ) (xs : List X) (c : ℕ) → Q ≡ c * product (λ x. (f x).denominator) xs → All (λ x. 0 < (f x).denominator) xs → All (λ x. Divides Q (f x).denominator) xs
+  divides : (Q : ℕ) (xs : List X) (c : ℕ) → Q ≡ c * product (λ x. (f x).denominator) xs → AllByRecursion (λ x. 0 < (f x).denominator) xs → AllByRecursion (λ x. Divides Q (f x).denominator) xs
   divides Q [] c e h = tt
   divides Q (x ∷ xs) c e h =
       let g : Q ≡ c * product (λ x. (f x).denominator) xs * (f x).denominator = omega arith in
       let k : Q / (f x).denominator ≡ c * product (λ x. (f x).denominator) xs = div-eq_of_eq-mul_left h.0 g in
       ((h.0, ap (λ z. z * (f x).denominator) k ∙ sym g), divides Q xs (c * (f x).denominator) (omega arith) h.1)
 
-  scaled_sum : (Q : ℕ) (xs : List X) → All (λ x. Divides Q (f x).denominator) xs
+  scaled_sum : (Q : ℕ) (xs : List X) → AllByRecursion (λ x. Divides Q (f x).denominator) xs
       → (sum f xs).numerator * Q ≡ (sum f xs).denominator * total (λ x. (f x).numerator * (Q / (f x).denominator)) xs
   scaled_sum Q [] h = omega arith
   scaled_sum Q (x ∷ xs) h =
@@ -41,11 +41,11 @@ module _ {X : Type 0} (f : X → Fraction) where
       step : (m p k s r t : ℕ) → r * k ≡ Q → s * Q ≡ p * t → (m * p + k * s) * Q ≡ k * p * (m * r + t)
       step m p k s r t e g = omega (arith, ap (λ z. m * p * z) e, ap (λ z. k * z) g)
 
-  module _ (xs : List X) (some : All (λ x. 0 < (f x).denominator) xs) where
+  module _ (xs : List X) (some : AllByRecursion (λ x. 0 < (f x).denominator) xs) where
     pub sum_pos : 0 < (sum f xs).denominator
     sum_pos = rw (sum_denominator xs) (product_pos (λ x. (f x).denominator) xs some)
 
-    pub sum_divides : All (λ x. Divides (sum f xs).denominator (f x).denominator) xs
+    pub sum_divides : AllByRecursion (λ x. Divides (sum f xs).denominator (f x).denominator) xs
     sum_divides = divides (sum f xs).denominator xs 1 (let e = sum_denominator xs in omega arith) some
 
     pub sum_numerator : (sum f xs).numerator ≡ total (λ x. (f x).numerator * ((sum f xs).denominator / (f x).denominator)) xs

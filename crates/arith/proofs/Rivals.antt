@@ -2,7 +2,7 @@
 use Rattle.std.proofs.Common.{◌≡◌, ℕ, ◌*◌, ◌/◌, ◌^◌, ◌<◌, ◌≤◌, List, [], ◌∷◌, ◌++◌, map, length, take, drop, sym, refl, ap, ◌∙◌, le_of_eq, le_of_suc-le-suc, not-suc-le-zero, mul-le-mul_right, mul_assoc, le_of_mul-le-mul_right, arith, length-append, length-drop}
 use mathlib.Core.List.{map-map}
 use native.Mathlib.Nat.{one-le-pow}
-use Rattle.std.specs.List.{zip, AllByRecursion as All}
+use Rattle.std.specs.List.{zip, AllByRecursion}
 use Rattle.std.proofs.ByRecursion.{All-weaker}
 use Rattle.std.proofs.lemmas.List.{take-map}
 use Rattle.std.proofs.lemmas.Slice.Zip.{firsts-zip, seconds-zip}
@@ -48,7 +48,7 @@ solid_fronts a xs h k =
     rw (take-map (λ (x : Rated). x.0) k xs, total_map (λ (x : Rated). x.0) (λ x. x.failures) (take k xs), total_map (λ (x : Rated). x.0) (λ x. x.exposure) (take k xs), total_map (λ (x : Rated). x.0) (λ x. x.failures) xs, total_map (λ (x : Rated). x.0) (λ x. x.exposure) xs)
     at (h k)
 
-all_follow : (Q : ℕ) (bs : List (List Rated)) → All (λ x. Divides Q (q x)) (pieces bs) → All Suits bs → All (Follows d t (rate_over Q)) bs
+all_follow : (Q : ℕ) (bs : List (List Rated)) → AllByRecursion (λ x. Divides Q (q x)) (pieces bs) → AllByRecursion Suits bs → AllByRecursion (Follows d t (rate_over Q)) bs
 unfolding rate_over
 all_follow Q [] g h = tt
 all_follow Q (b ∷ bs) g h = (
@@ -68,8 +68,8 @@ product_pooled g bs =
 
 -- No rates have a larger product than the blocks, where each block has a direction of its own.
 pub no_likelier : (bs : List (List Rated))
-    → All (λ x. 0 < q x) (pieces bs)
-    → All Suits bs
+    → AllByRecursion (λ x. 0 < q x) (pieces bs)
+    → AllByRecursion Suits bs
     → AtMost (expected (pieces bs)) (whole (total d (pieces bs)))
     → AtMost (rival_product (pieces bs)) (fit_product (map pooled_rated bs))
 unfolding rate_over
@@ -86,7 +86,7 @@ no_likelier bs some suits few =
     Q : ℕ
     Q = (expected xs).denominator
 
-    all_divide : All (λ x. Divides Q (q x)) xs
+    all_divide : AllByRecursion (λ x. Divides Q (q x)) xs
     all_divide = sum_divides expected_in xs some
 
     total_expected : total (λ x. rate_over Q x * t x) xs ≤ Q * total d xs
@@ -141,14 +141,14 @@ module _ (bs : List (List Piece)) (rs : List Fraction) (each : length rs ≡ len
   pub dealt_pooled : map pooled_rated (dealt bs rs) ≡ map pooled bs
   dealt_pooled = sym (map-map pooled (λ b. map (λ x. x.0) b) (dealt bs rs)) ∙ ap (λ l. map pooled l) (dealt_firsts bs rs (le_of_eq (sym each)))
 
-  pub dealt_some : All (λ r. 0 < r.denominator) rs → All (λ x. 0 < q x) (pieces (dealt bs rs))
+  pub dealt_some : AllByRecursion (λ r. 0 < r.denominator) rs → AllByRecursion (λ x. 0 < q x) (pieces (dealt bs rs))
   dealt_some h = rw (pieces_dealt bs rs) (all_unmap (λ x. x.1) (λ r. 0 < r.denominator) (zip (pieces bs) rs) (rw (seconds-zip (pieces bs) rs each) h))
 
   pub dealt_failures : total d (pieces (dealt bs rs)) ≡ (pooled (pieces bs)).failures
   dealt_failures = rw (pieces_dealt bs rs, ← (total_map (λ (x : Rated). x.0) (λ x. x.failures) (zip (pieces bs) rs)), firsts-zip (pieces bs) rs each)
 
   -- rates that fall along solid blocks suit them
-  pub dealt_suits : (direction : Direction) → All (λ b. Solid (along direction b)) bs → Chain Falls (along direction rs) → All Suits (dealt bs rs)
+  pub dealt_suits : (direction : Direction) → AllByRecursion (λ b. Solid (along direction b)) bs → Chain Falls (along direction rs) → AllByRecursion Suits (dealt bs rs)
   dealt_suits direction solid falls = both (dealt bs rs)
       (all_unmap (λ b. map (λ x. x.0) b) (λ b. Solid (along direction b)) (dealt bs rs) (rw (dealt_firsts bs rs (le_of_eq (sym each))) solid))
       (chain_blocks (λ x y. Falls x.1 y.1) direction (dealt bs rs)
@@ -157,7 +157,7 @@ module _ (bs : List (List Piece)) (rs : List Fraction) (each : length rs ≡ len
       z : List Rated
       z = zip (pieces bs) rs
 
-      both : (cs : List (List Rated)) → All (λ b. Solid (along direction (map (λ x. x.0) b))) cs → All (λ b. Chain (λ x y. Falls x.1 y.1) (along direction b)) cs → All Suits cs
+      both : (cs : List (List Rated)) → AllByRecursion (λ b. Solid (along direction (map (λ x. x.0) b))) cs → AllByRecursion (λ b. Chain (λ x y. Falls x.1 y.1) (along direction b)) cs → AllByRecursion Suits cs
       both [] f g = tt
       both (c ∷ cs) f g = ((direction, f.0, g.0), both cs f.1 g.1)
 

@@ -3,7 +3,7 @@ use Rattle.std.proofs.Common.{◌≡◌, ℕ, zero, suc, ◌+◌, ◌-◌, ◌*�
 use native.Mathlib.Nat.{pow-zero, pow-le-pow_left, pow-lt-pow_left}
 use native.Mathlib.Decide.{dec_le}
 use lib.IntN.{zero-*ℤ, suc_ℤ-*ℤ, -ℤ-+ℤ_cancel}
-use Rattle.std.specs.List.{AllByRecursion as All}
+use Rattle.std.specs.List.{AllByRecursion}
 use Rattle.std.proofs.ByRecursion.{All-weaker}
 use Rattle.std.proofs.lemmas.Int.{ints}
 use Rattle.arith.specs.Sums.{total, product}
@@ -47,13 +47,13 @@ module _ {X : Type 0} (c v s : X → ℕ) (N : ℕ) where
   swapped : (x : X) → (v x ^ c x) ^ N ≡ (v x ^ N) ^ c x
   swapped x = sym (pow_mul (v x) (c x) N) ∙ ap (λ k. v x ^ k) (mul_comm (c x) N) ∙ pow_mul (v x) N (c x)
 
-  from_below : (xs : List X) → All (λ x. 0 < c x → 2 ^ s x ≤ v x ^ N) xs → 2 ^ total (λ x. c x * s x) xs ≤ product (λ x. v x ^ c x) xs ^ N
+  from_below : (xs : List X) → AllByRecursion (λ x. 0 < c x → 2 ^ s x ≤ v x ^ N) xs → 2 ^ total (λ x. c x * s x) xs ≤ product (λ x. v x ^ c x) xs ^ N
   from_below [] h = le_of_eq (sym (one_pow N))
   from_below (x ∷ xs) h =
       rw (pow-add 2 (c x * s x), mul_pow (v x ^ c x), swapped x, mul_comm (c x) (s x), pow_mul 2 (s x) (c x))
       (mul-le-mul (raised (2 ^ s x) (v x ^ N) (c x) h.0) (from_below xs h.1))
 
-  from_above : (xs : List X) → All (λ x. 0 < c x → v x ^ N ≤ 2 ^ (s x + 2)) xs → product (λ x. v x ^ c x) xs ^ N ≤ 2 ^ (total (λ x. c x * s x) xs + 2 * total c xs)
+  from_above : (xs : List X) → AllByRecursion (λ x. 0 < c x → v x ^ N ≤ 2 ^ (s x + 2)) xs → product (λ x. v x ^ c x) xs ^ N ≤ 2 ^ (total (λ x. c x * s x) xs + 2 * total c xs)
   from_above [] h = le_of_eq (one_pow N)
   from_above (x ∷ xs) h =
       rw (two_more (c x) (s x) (total (λ x. c x * s x) xs) (total c xs), pow-add 2 ((s x + 2) * c x), mul_pow (v x ^ c x), swapped x, pow_mul 2 (s x + 2) (c x))
@@ -67,21 +67,21 @@ module _ (K : ℕ) (hK : K ≤ 30) (v : Piece → ℕ) where
   abbrev Sized : Piece → Type 0
   Sized b = (0 < b.failures → 0 < v b) × (v b < 2 ^ 32)
 
-  at_least : (bs : List Piece) → All Sized bs → 2 ^ total (λ b. b.failures * scaled_log2 K (v b)) bs ≤ product (λ b. v b ^ b.failures) bs ^ 2 ^ K
+  at_least : (bs : List Piece) → AllByRecursion Sized bs → 2 ^ total (λ b. b.failures * scaled_log2 K (v b)) bs ≤ product (λ b. v b ^ b.failures) bs ^ 2 ^ K
   at_least bs h =
       from_below (λ b. b.failures) v (λ b. scaled_log2 K (v b)) (2 ^ K) bs
       (All-weaker Sized _ (λ b r some. (log_is_close K hK (v b) (r.0 some) r.1).0) bs h)
 
-  at_most : (bs : List Piece) → All Sized bs
+  at_most : (bs : List Piece) → AllByRecursion Sized bs
       → product (λ b. v b ^ b.failures) bs ^ 2 ^ K ≤ 2 ^ (total (λ b. b.failures * scaled_log2 K (v b)) bs + 2 * (pooled bs).failures)
   at_most bs h =
       from_above (λ b. b.failures) v (λ b. scaled_log2 K (v b)) (2 ^ K) bs
       (All-weaker Sized _ (λ b r some. le_of_lt (log_is_close K hK (v b) (r.0 some) r.1).1) bs h)
 
-by_failures : (bs : List Piece) → All Scorable bs → All (λ b. (0 < b.failures → 0 < b.failures) × (b.failures < 2 ^ 32)) bs
+by_failures : (bs : List Piece) → AllByRecursion Scorable bs → AllByRecursion (λ b. (0 < b.failures → 0 < b.failures) × (b.failures < 2 ^ 32)) bs
 by_failures = All-weaker Scorable _ (λ b h. (λ some. some, h.0))
 
-by_exposure : (bs : List Piece) → All Scorable bs → All (λ b. (0 < b.failures → 0 < b.exposure) × (b.exposure < 2 ^ 32)) bs
+by_exposure : (bs : List Piece) → AllByRecursion Scorable bs → AllByRecursion (λ b. (0 < b.failures → 0 < b.exposure) × (b.exposure < 2 ^ 32)) bs
 by_exposure = All-weaker Scorable _ (λ b h. (λ some. h.1, h.2))
 
 -- a fourth power that is no greater

@@ -2,7 +2,7 @@
 use Rattle.std.proofs.Common.{◌≡◌, ℕ, ◌+◌, ◌*◌, ◌^◌, ◌<◌, List, [], ◌∷◌, ◌++◌, map, reverse, sym, refl, ap, ◌∙◌, zero-lt-suc, mul-pos, arith, pow-add}
 use mathlib.Core.List.{reverse-cons}
 use native.Mathlib.Nat.{pow-zero}
-use Rattle.std.specs.List.{AllByRecursion as All}
+use Rattle.std.specs.List.{AllByRecursion}
 use Rattle.arith.specs.Sums.{total, product}
 use Rattle.arith.specs.Rivals.{pieces}
 
@@ -39,11 +39,11 @@ module _ {X : Type 0} where
   product_mul f g [] = refl
   product_mul f g (x ∷ xs) = rw (product_mul f g xs) (omega arith)
 
-  pub product_same : (f g : X → ℕ) (xs : List X) → All (λ x. f x ≡ g x) xs → product f xs ≡ product g xs
+  pub product_same : (f g : X → ℕ) (xs : List X) → AllByRecursion (λ x. f x ≡ g x) xs → product f xs ≡ product g xs
   product_same f g [] h = refl
   product_same f g (x ∷ xs) h = rw (h.0, product_same f g xs h.1)
 
-  pub product_pos : (f : X → ℕ) (xs : List X) → All (λ x. 0 < f x) xs → 0 < product f xs
+  pub product_pos : (f : X → ℕ) (xs : List X) → AllByRecursion (λ x. 0 < f x) xs → 0 < product f xs
   product_pos f [] h = zero-lt-suc 0
   product_pos f (x ∷ xs) h = mul-pos h.0 (product_pos f xs h.1)
 
@@ -52,7 +52,7 @@ module _ {X : Type 0} where
   product_pow c f (x ∷ xs) = ap (λ p. c ^ f x * p) (product_pow c f xs) ∙ sym (pow-add c (f x) (total f xs))
 
   -- what holds of everything holds of each element
-  pub all_of : (P : X → Type 0) → ((x : X) → P x) → (xs : List X) → All P xs
+  pub all_of : (P : X → Type 0) → ((x : X) → P x) → (xs : List X) → AllByRecursion P xs
   all_of P h [] = tt
   all_of P h (x ∷ xs) = (h x, all_of P h xs)
 

@@ -1,7 +1,7 @@
 -- A fit pools consecutive pieces of service into blocks and gives each piece the rate of its block, failures over exposure.
 -- No rival that moves in the same direction and expects no more failures than were counted makes the counted failures likelier.
 use Rattle.std.specs.Prelude.{◌≡◌, ℕ, ◌*◌, ◌^◌, ◌<◌, ◌≤◌, List, [], ◌∷◌, map, reverse, length, take}
-use Rattle.std.specs.List.{zip, flat_map, AllByRecursion as All}
+use Rattle.std.specs.List.{zip, flat_map, AllByRecursion}
 use Rattle.arith.specs.Sums.{total, product}
 use Rattle.arith.specs.Fractions.{Fraction, AtMost, whole, sum}
 
@@ -73,7 +73,7 @@ fit_product blocks = record {
 -- fit they do not fall, and it expects no more failures than were counted.
 pub record Rival (direction : Direction) (ps : List Piece) (rates : List Fraction) : Type 0 where
   pub each : length rates ≡ length ps
-  pub denominators : All (λ r. 0 < r.denominator) rates
+  pub denominators : AllByRecursion (λ r. 0 < r.denominator) rates
   pub monotone : Chain (λ r s. AtMost s r) (along direction rates)
   pub expects_no_more : AtMost (expected (zip ps rates)) (whole (pooled ps).failures)
 
@@ -81,6 +81,6 @@ pub record Rival (direction : Direction) (ps : List Piece) (rates : List Fractio
 abbrev pub NoRivalIsLikelier : Type 0
 NoRivalIsLikelier =
     (direction : Direction) (blocks : List (List Piece)) (rates : List Fraction)
-    → All (λ b. Solid (along direction b)) blocks
+    → AllByRecursion (λ b. Solid (along direction b)) blocks
     → Rival direction (pieces blocks) rates
     → AtMost (rival_product (zip (pieces blocks) rates)) (fit_product (map pooled blocks))

@@ -1,6 +1,6 @@
 -- The score of a fit: the scaled logarithm of its product, by the logarithm in whole numbers, and how well it tells products apart.
 use Rattle.std.specs.Prelude.{◌≡◌, ℕ, ◌-◌, ◌^◌, ◌<◌, List, [], ◌∷◌, ℤ, pos, ◌+ℤ◌, ◌-ℤ◌, ◌*ℤ◌, ◌≤ℤ◌}
-use Rattle.std.specs.List.{AllByRecursion as All}
+use Rattle.std.specs.List.{AllByRecursion}
 use Rattle.arith.specs.Fractions.{AtMostTimes}
 use Rattle.arith.specs.Log.{scaled_log2}
 use Rattle.arith.specs.Rivals.{Piece, pooled, fit_product}
@@ -27,8 +27,8 @@ telling_power K = 2 ^ (K - 2)
 abbrev pub ScoresTellProducts : ℕ → Type 0
 ScoresTellProducts K =
     (best other : List Piece)
-    → All Scorable best
-    → All Scorable other
+    → AllByRecursion Scorable best
+    → AllByRecursion Scorable other
     → (pooled best).failures ≡ (pooled other).failures
     → score K other ≤ℤ score K best
     → AtMostTimes (2 ^ (pooled best).failures) (telling_power K) (fit_product other) (fit_product best)

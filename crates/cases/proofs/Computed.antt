@@ -1,7 +1,7 @@
 -- The worked cases, computed.
 use Rattle.std.proofs.Common.{◌≡◌, ℕ, suc, ◌-◌, ◌<◌, ◌≤◌, true, false, ◌&&◌, ltb, leb, List, [], ◌∷◌, ◌++◌, length, pos, neg_ℤ, Ok, Err, Result, sym, refl, ap, ◌∙◌, subst, ap₂, arith}
 use lib.Count.{count_leading_zeros}
-use Rattle.std.specs.List.{zip, AllByRecursion as All}
+use Rattle.std.specs.List.{zip, AllByRecursion}
 use Rattle.std.proofs.lemmas.Bool.{and_right, lt-leb, ne_eqb}
 use Rattle.units.specs.Refusals.{Refused, refused}
 use Rattle.units.specs.Hours.{last_tick}
@@ -128,7 +128,7 @@ unfolding u_shaped_by
 u_shaped_is c room = refl
 
 -- places of bounded lives, of which none is watched after an age at which one is
-module _ (ps : List PlainPlace) (bounded : All Bounded ps) (few : length ps ≤ most_failures) (o : ℕ) (is : Oldest (study_watched ps) o) where
+module _ (ps : List PlainPlace) (bounded : AllByRecursion Bounded ps) (few : length ps ≤ most_failures) (o : ℕ) (is : Oldest (study_watched ps) o) where
   laws : Lawful (study_watched ps) (study_failed ps)
   laws = study_laws ps bounded few
 
@@ -148,13 +148,13 @@ module _ (ps : List PlainPlace) (bounded : All Bounded ps) (few : length ps ≤ 
 gone : (t exit : ℕ) → exit < t → (ltb 0 t && leb t exit) ≡ false
 gone t exit l = and_right (ltb 0 t) (leb t exit) (lt-leb t exit l)
 
-one_bounded : All Bounded one
+one_bounded : AllByRecursion Bounded one
 one_bounded = (omega arith, tt)
 
-four_bounded : All Bounded four
+four_bounded : AllByRecursion Bounded four
 four_bounded = (omega arith, (omega arith, (omega arith, (omega arith, tt))))
 
-five_bounded : All Bounded five
+five_bounded : AllByRecursion Bounded five
 five_bounded = (omega arith, (omega arith, (omega arith, (omega arith, (omega arith, tt)))))
 
 five_oldest : Oldest (study_watched five) 8

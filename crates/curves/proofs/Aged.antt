@@ -1,6 +1,6 @@
 -- The stack of a side, and its blocks in order of age.
 use Rattle.std.proofs.Common.{◌≡◌, ℕ, ◌+◌, ◌-◌, ◌<◌, ◌≤◌, List, ◌++◌, map, reverse, length, get_or, take, ℤ, ◌+ℤ◌, sum_by, sym, refl, ap, ◌∙◌, subst, ap₂, arith, w64, SFits, to_z, of_z}
-use Rattle.std.specs.List.{AllByRecursion as All}
+use Rattle.std.specs.List.{AllByRecursion}
 use Rattle.std.proofs.ByRecursion.{All-get_or}
 use Rattle.std.proofs.lemmas.List.{get_or-map, get_or-reverse, get_or-take, length-append, length-map, length-reverse, length-take-le, reverse-reverse}
 use Rattle.arith.specs.Rivals.{falling}
@@ -72,15 +72,15 @@ module _ (ms : List (Block (Turned Rate))) (h : ℕ) (low : h ≤ length ms) whe
         ∙ sym (get_or-map (mirrored size) (piled ms h) i r r (rw piled_length within))
 
     -- what holds of each block of the stack holds of one that is read
-    pub of_each : (P : Block Rate → Type 0) → All P (piled ms h) → b ≡ get_or ms i b → r ≡ unturn b → P r
+    pub of_each : (P : Block Rate → Type 0) → AllByRecursion P (piled ms h) → b ≡ get_or ms i b → r ≡ unturn b → P r
     of_each P all read is =
         subst P (sym (from_bottom read is))
         (All-get_or P (reverse (piled ms h)) i r (rw (length-reverse (piled ms h), piled_length) within) (all_reverse P (piled ms h) all))
 
-stack_inside : (xs : List Rate) → sum_by rate_bulk xs ≤ limit → All (Inside (length xs)) (stacked (turned rate_leq) rate_joined xs)
+stack_inside : (xs : List Rate) → sum_by rate_bulk xs ≤ limit → AllByRecursion (Inside (length xs)) (stacked (turned rate_leq) rate_joined xs)
 stack_inside xs light =
     let bs = stacked (turned rate_leq) rate_joined xs in
-    subst (All (Inside (length xs))) (ap reverse (falling_turns rate_laws xs light ∙ sym (stacked_fits (turned_laws rate_laws) xs light)) ∙ reverse-reverse bs)
+    subst (AllByRecursion (Inside (length xs))) (ap reverse (falling_turns rate_laws xs light ∙ sym (stacked_fits (turned_laws rate_laws) xs light)) ∙ reverse-reverse bs)
     (all_reverse (Inside (length xs)) (falling_blocks rate_leq rate_joined xs) (blocks_inside falling xs light))
 
 -- a side stays in the table
@@ -129,11 +129,11 @@ module _ (gs : List Gap) (k t : ℕ) (turns : t ≤ k) where
     pub fit_count : h ≤ length ms → h ≡ length (side_blocks gs k t side)
     fit_count low = sym (age_length ms h low side size) ∙ ap length fit_blocks
 
-    pub fit_inside : All (Inside size) (piled ms h)
+    pub fit_inside : AllByRecursion (Inside size) (piled ms h)
     fit_inside =
         let xs = pile gs k side size in
         let same : sum_by rate_bulk xs ≡ sum_by rate_bulk (side_pieces gs k t side) = ap (λ (n : ℕ). sum_by rate_bulk (pile gs k side n)) whole ∙ pile_bulk side in
-        subst (All (Inside size)) (sym stack) (subst (λ (n : ℕ). All (Inside n) (stacked (turned rate_leq) rate_joined xs)) (row_length (piece_at gs k side) 0 size) (stack_inside xs (omega (arith, same))))
+        subst (AllByRecursion (Inside size)) (sym stack) (subst (λ (n : ℕ). AllByRecursion (Inside n) (stacked (turned rate_leq) rate_joined xs)) (row_length (piece_at gs k side) 0 size) (stack_inside xs (omega (arith, same))))
 
     pub fit_light : sum_by weight (in_age_order side size (piled ms h)) ≤ limit
     fit_light = rw fit_blocks (side_bulk side light)

@@ -2,7 +2,7 @@
 use Rattle.std.proofs.Common.{◌≡◌, ℕ, zero, suc, ◌+◌, ◌-◌, ◌*◌, ◌^◌, ◌<◌, ◌≤◌, List, [], ◌∷◌, ◌++◌, map, length, ◌≤ℤ◌, sym, refl, ap, ◌∙◌, subst, ap₂, subst₂, mul-le-mul_right, not-le_of_lt, le_of_mul-le-mul_right, arith}
 use mathlib.Core.List.{map-append}
 use native.Mathlib.Nat.{pow-zero, one-le-pow, pow-le-pow_left}
-use Rattle.std.specs.List.{AllByRecursion as All}
+use Rattle.std.specs.List.{AllByRecursion}
 use Rattle.std.proofs.ByRecursion.{All-weaker}
 use Rattle.arith.specs.Fractions.{Fraction, AtMost, AtMostTimes}
 use Rattle.arith.specs.Log.{squarings}
@@ -147,7 +147,7 @@ combined c P x y z some h g =
     numbers : (xa xb ya yb za zb : ℕ) → 0 < yb → xa * yb ≤ ya * xb → ya * zb ≤ c * (za * yb) → xa * zb ≤ c * (za * xb)
     numbers xa xb ya yb za zb some h g = le_of_mul-le-mul_right {k = yb} (omega (arith, mul-le-mul_right zb h, mul-le-mul_right xb g)) some
 
-denominator_some : (bs : List Piece) → All Scorable bs → 0 < (fit_product bs).denominator
+denominator_some : (bs : List Piece) → AllByRecursion Scorable bs → 0 < (fit_product bs).denominator
 denominator_some bs h = product_pos (λ x. x.exposure ^ x.failures) bs (All-weaker Scorable (λ x. 0 < x.exposure ^ x.failures) (λ x k. one-le-pow x.failures x.exposure k.1) bs h)
 
 -- of two turning gaps, the one with the greater score has nearly as large a product

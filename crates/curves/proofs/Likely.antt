@@ -1,7 +1,7 @@
 -- No rival with the same turning gap has a larger product than the blocks of the two fits beside it.
 use Rattle.std.proofs.Common.{◌≡◌, ◌+◌, ◌<◌, List, [], ◌∷◌, ◌++◌, map, reverse, length, ap, ◌∙◌, arith}
 use mathlib.Core.List.{map-append, reverse_aux}
-use Rattle.std.specs.List.{zip, AllByRecursion as All}
+use Rattle.std.specs.List.{zip, AllByRecursion}
 use Rattle.std.proofs.ByRecursion.{All-append}
 use Rattle.arith.specs.Fractions.{Fraction, AtMost, whole}
 use Rattle.arith.specs.Rivals.{Piece, pooled, falling, rising, along, Solid, pieces, Next, Chain, Rated, expected, rival_product, fit_product}
@@ -45,14 +45,14 @@ module _ (lb rb : List (List Piece)) (trough : Piece) (none : trough.failures �
       pieces_append (dealt lb rl) (((trough, rm) ∷ []) ∷ dealt rb rr)
       ∙ (λ i. pieces_dealt lb rl i ++ (trough, rm) ∷ pieces_dealt rb rr i)
 
-  all_suit : All (λ b. Solid (along falling b)) lb → All (λ b. Solid (along rising b)) rb → Chain Falls (along falling rl) → Chain Falls (along rising rr) → All Suits parts
+  all_suit : AllByRecursion (λ b. Solid (along falling b)) lb → AllByRecursion (λ b. Solid (along rising b)) rb → Chain Falls (along falling rl) → Chain Falls (along rising rr) → AllByRecursion Suits parts
   unfolding parts
   all_suit ls rs lf rf =
       All-append Suits (dealt lb rl) (((trough, rm) ∷ []) ∷ dealt rb rr)
       (dealt_suits lb rl le falling ls lf) ((falling, solid_one falling trough, (tt, tt)), dealt_suits rb rr re rising rs rf)
 
-  pub not_likelier : All (λ b. Solid (along falling b)) lb → All (λ b. Solid (along rising b)) rb → Chain Falls rl → Chain AtMost rr
-      → All (λ r. 0 < r.denominator) (rl ++ rm ∷ rr)
+  pub not_likelier : AllByRecursion (λ b. Solid (along falling b)) lb → AllByRecursion (λ b. Solid (along rising b)) rb → Chain Falls rl → Chain AtMost rr
+      → AllByRecursion (λ r. 0 < r.denominator) (rl ++ rm ∷ rr)
       → AtMost (expected (zip (pieces lb) rl ++ (trough, rm) ∷ zip (pieces rb) rr)) (whole ((pooled (pieces lb)).failures + (pooled (pieces rb)).failures))
       → AtMost (rival_product (zip (pieces lb) rl ++ (trough, rm) ∷ zip (pieces rb) rr)) (fit_product (map pooled lb ++ pooled (trough ∷ []) ∷ map pooled rb))
   unfolding parts
@@ -64,7 +64,7 @@ module _ (lb rb : List (List Piece)) (trough : Piece) (none : trough.failures �
           map-append pooled_rated (dealt lb rl) (((trough, rm) ∷ []) ∷ dealt rb rr)
           ∙ (λ i. dealt_pooled lb rl le i ++ pooled (trough ∷ []) ∷ dealt_pooled rb rr re i)
 
-      some : All (λ (x : Rated). 0 < x.1.denominator) (pieces parts)
+      some : AllByRecursion (λ (x : Rated). 0 < x.1.denominator) (pieces parts)
       some =
           let right = all_right (λ r. 0 < r.denominator) rl (rm ∷ rr) ds in
           rw (pieces_append (dealt lb rl) (((trough, rm) ∷ []) ∷ dealt rb rr))

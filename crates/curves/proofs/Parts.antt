@@ -1,7 +1,7 @@
 -- The blocks of a fit pool parts of the pieces, each of which holds together. By the stack that has the same blocks.
 use Rattle.std.proofs.Common.{◌≡◌, ℕ, suc, ◌+◌, ◌*◌, ◌<◌, ◌≤◌, max, Bool, true, List, [], ◌∷◌, ◌++◌, map, reverse, sum_by, sym, refl, ap, ◌∙◌, subst, ap₂, subst₂, arith}
 use mathlib.Core.List.{reverse-cons}
-use Rattle.std.specs.List.{AllByRecursion as All}
+use Rattle.std.specs.List.{AllByRecursion}
 use Rattle.std.proofs.lemmas.List.{append-nil, append_assoc}
 use Rattle.std.proofs.lemmas.List.Sums.{sum_by-cons}
 use Rattle.std.proofs.lemmas.Bool.{cond_both, leb-true}
@@ -142,7 +142,7 @@ module _ (direction : Direction) where
   pub record Parts (bs : List (Block Rate)) (ps : List Piece) : Type 0 where
     pub parts : List (List Piece)
     pub sums : map block_piece bs ≡ map pooled parts
-    pub solid : All (λ l. Solid (along direction l)) parts
+    pub solid : AllByRecursion (λ l. Solid (along direction l)) parts
     pub whole : pieces parts ≡ ps
 
   cut_sums : (bs : List (Block Rate)) (ls : List (List Piece)) → Cut bs ls → map block_piece bs ≡ map pooled ls
@@ -151,7 +151,7 @@ module _ (direction : Direction) where
   cut_sums (b ∷ bs) [] cut = absurd cut
   cut_sums (b ∷ bs) (l ∷ ls) cut = ap₂ (λ x xs. x ∷ xs) cut.0.is (cut_sums bs ls cut.1)
 
-  cut_solid : (bs : List (Block Rate)) (ls : List (List Piece)) → Cut bs ls → All (λ l. Solid (along direction l)) ls
+  cut_solid : (bs : List (Block Rate)) (ls : List (List Piece)) → Cut bs ls → AllByRecursion (λ l. Solid (along direction l)) ls
   cut_solid [] [] cut = tt
   cut_solid [] (l ∷ ls) cut = absurd cut
   cut_solid (b ∷ bs) [] cut = absurd cut
@@ -180,7 +180,7 @@ fit_parts direction xs light =
 
 -- pieces with exposure
 abbrev pub Exposed : List Piece → Type 0
-Exposed ps = All (λ x. 0 < x.exposure) ps
+Exposed ps = AllByRecursion (λ x. 0 < x.exposure) ps
 
 pub rates_are : (ps : List Piece) → Exposed ps → map rate_piece (map rate_of ps) ≡ ps
 rates_are [] h = refl

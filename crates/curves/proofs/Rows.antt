@@ -1,7 +1,7 @@
 -- Rows: lists of the values of a function.
 use Rattle.std.proofs.Common.{◌≡◌, ℕ, zero, suc, ◌+◌, ◌-◌, ◌<◌, ◌≤◌, [], ◌∷◌, ◌++◌, map, reverse, length, get_or, take, drop, sym, refl, ap, ◌∙◌, ap₂, arith}
 use mathlib.Core.List.{reverse-cons}
-use Rattle.std.specs.List.{AllByRecursion as All}
+use Rattle.std.specs.List.{AllByRecursion}
 use Rattle.curves.specs.Pieces.{row}
 
 pub row_length : {A : Type 0} (g : ℕ → A) (s m : ℕ) → length (row g s m) ≡ m
@@ -29,7 +29,7 @@ row_drop g s (suc m) (suc k) h =
     let b : suc k - suc m ≡ k - m = omega arith in
     ap₂ (row g) a b ∙ row_drop g (suc s) m k (omega arith)
 
-pub all_row : {A : Type 0} (P : A → Type 0) (g : ℕ → A) (s m : ℕ) → ((i : ℕ) → s ≤ i → i < s + m → P (g i)) → All P (row g s m)
+pub all_row : {A : Type 0} (P : A → Type 0) (g : ℕ → A) (s m : ℕ) → ((i : ℕ) → s ≤ i → i < s + m → P (g i)) → AllByRecursion P (row g s m)
 all_row P g s zero h = tt
 all_row P g s (suc m) h = (h s (omega arith) (omega arith), all_row P g (suc s) m (λ i p q. h i (omega arith) (omega arith)))
 

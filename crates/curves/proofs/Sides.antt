@@ -1,6 +1,6 @@
 -- The pieces on the two sides of a turning gap: their exposures, and their sums.
 use Rattle.std.proofs.Common.{◌≡◌, ℕ, zero, suc, ◌+◌, ◌-◌, ◌<◌, ◌≤◌, List, [], ◌∷◌, length, get_or, take, sym, refl, ap, ◌∙◌, subst, inl, inr, add-zero, arith}
-use Rattle.std.specs.List.{AllByRecursion as All}
+use Rattle.std.specs.List.{AllByRecursion}
 use Rattle.std.proofs.lemmas.List.{take_more, take_all, get_or_past}
 use Rattle.std.proofs.lemmas.Bool.{cases_lt}
 use Rattle.arith.specs.Rivals.{pooled}
@@ -93,16 +93,16 @@ module _ (n f : ℕ → ℕ) (xs : List ℕ) (end : ℕ) (marks : Marked n f xs 
     right_are : right_pieces n f xs end (suc m) ≡ row (right_piece n f xs end) (suc m) (length xs - m)
     right_are = let less : suc (length xs) - suc m ≡ length xs - m = omega arith in ap (row (right_piece n f xs end) (suc m)) less
 
-    pub left_whole : All WholePiece (left_pieces n f xs end (suc m))
-    left_whole = subst (All WholePiece) (sym left_are) (all_row WholePiece (left_piece n f xs end) 1 m each)
+    pub left_whole : AllByRecursion WholePiece (left_pieces n f xs end (suc m))
+    left_whole = subst (AllByRecursion WholePiece) (sym left_are) (all_row WholePiece (left_piece n f xs end) 1 m each)
       where
         each : (i : ℕ) → 1 ≤ i → i < 1 + m → WholePiece (left_piece n f xs end i)
         each zero p q = absurd (omega arith)
         each (suc i) p q = ((marks.next i (omega arith)).1, gap_some i (omega arith))
 
     -- the last gap has exposure where it is not empty and its last tick is watched
-    pub right_whole : (m < length xs → (age xs end (length xs) < end) × (0 < n end)) → All WholePiece (right_pieces n f xs end (suc m))
-    right_whole strict = subst (All WholePiece) (sym right_are) (all_row WholePiece (right_piece n f xs end) (suc m) (length xs - m) each)
+    pub right_whole : (m < length xs → (age xs end (length xs) < end) × (0 < n end)) → AllByRecursion WholePiece (right_pieces n f xs end (suc m))
+    right_whole strict = subst (AllByRecursion WholePiece) (sym right_are) (all_row WholePiece (right_piece n f xs end) (suc m) (length xs - m) each)
       where
         final : m < length xs → 0 < gap_exposure n f xs end (suc (length xs))
         final h = let s = strict h in let g = between_some n (age xs end (length xs)) end s.0 s.1 in omega (arith, ap (upto n) at_end)

@@ -1,6 +1,6 @@
 -- The steps of each turning gap join end to end, have the max-min values, fall strictly on the left and rise strictly on the right.
 use Rattle.std.proofs.Common.{◌≡◌, ℕ, suc, ◌+◌, ◌-◌, ◌≤◌, eqb, List, [], ◌∷◌, ◌++◌, map, length, sym, refl, ap, ◌∙◌, subst, subst₂, arith}
-use Rattle.std.specs.List.{AllByRecursion as All}
+use Rattle.std.specs.List.{AllByRecursion}
 use Rattle.std.proofs.ByRecursion.{All-weaker}
 use Rattle.std.proofs.lemmas.List.{get_or_past, length-map}
 use Rattle.std.proofs.lemmas.Bool.{cond_both, eqb-true}
@@ -85,6 +85,6 @@ module _ (c : Counts) (shape : Shape) (j : ℕ) where
   pub values_stand : ValuesStand c shape j
   values_stand laws a d =
       let s = sound_at c shape laws j a in (
-        subst (λ (k : ℕ). All (HasValues (fits.falling rate_leq (pooled_left c shape j d) k)) (left_blocks_of c shape j)) (length-map (left_of c shape j) rate_of) ((left_laid _ _ _ _ j s).values d),
-        subst (λ (k : ℕ). All (HasValues (fits.rising rate_leq (pooled_right c shape j d) k)) (right_blocks_of c shape j)) (length-map (right_of c shape j) rate_of) ((right_laid _ _ _ _ j s).values d),
+        subst (λ (k : ℕ). AllByRecursion (HasValues (fits.falling rate_leq (pooled_left c shape j d) k)) (left_blocks_of c shape j)) (length-map (left_of c shape j) rate_of) ((left_laid _ _ _ _ j s).values d),
+        subst (λ (k : ℕ). AllByRecursion (HasValues (fits.rising rate_leq (pooled_right c shape j d) k)) (right_blocks_of c shape j)) (length-map (right_of c shape j) rate_of) ((right_laid _ _ _ _ j s).values d),
       )

@@ -1,6 +1,6 @@
 -- The table of gaps of counts gives their pieces, scores and steps.
 use Rattle.std.proofs.Common.{◌≡◌, ℕ, zero, suc, ◌+◌, ◌-◌, ◌<◌, ◌≤◌, cond, eqb, List, [], ◌∷◌, ◌++◌, map, length, get_or, take, drop, set, ◌+ℤ◌, sum_by, sym, refl, ap, ◌∙◌, subst, ap₂, arith}
-use Rattle.std.specs.List.{AllByRecursion as All}
+use Rattle.std.specs.List.{AllByRecursion}
 use Rattle.std.proofs.lemmas.List.{get_or-take, map-append, take_more_set, take_at, drop_at, length-append, length-drop}
 use Rattle.std.proofs.lemmas.Bool.{cond-true, le-leb}
 use Rattle.arith.specs.Rivals.{Direction, falling, rising}
@@ -27,17 +27,17 @@ use Rattle.curves.specs.declared.step.Step.{Step}
 use Rattle.curves.proofs.Parts.{fit, fit_rises, order_laws}
 use Rattle.curves.proofs.Rows.{row_shift, row_same, row_map, row_length}
 
-map_alike : {X Y : Type 0} (f h : X → Y) (xs : List X) → All (λ x. f x ≡ h x) xs → map f xs ≡ map h xs
+map_alike : {X Y : Type 0} (f h : X → Y) (xs : List X) → AllByRecursion (λ x. f x ≡ h x) xs → map f xs ≡ map h xs
 map_alike f h [] e = refl
 map_alike f h (x ∷ xs) e = ap₂ (λ y ys. y ∷ ys) e.0 (map_alike f h xs e.1)
 
 -- the blocks of a fit are blocks of its pieces
-pub blocks_inside : (direction : Direction) (xs : List Rate) → sum_by rate_bulk xs ≤ limit → All (Inside (length xs)) (fit direction xs)
+pub blocks_inside : (direction : Direction) (xs : List Rate) → sum_by rate_bulk xs ≤ limit → AllByRecursion (Inside (length xs)) (fit direction xs)
 unfolding rising_blocks falling_blocks
 blocks_inside rising [] light = tt
 blocks_inside falling [] light = tt
 blocks_inside direction (x ∷ xs) light =
-    subst (All (Inside (length (x ∷ xs)))) (sym (fit_rises direction (x ∷ xs) light)) (rising_inside (order_laws direction) (x ∷ xs) light (omega arith) x)
+    subst (AllByRecursion (Inside (length (x ∷ xs)))) (sym (fit_rises direction (x ∷ xs) light)) (rising_inside (order_laws direction) (x ∷ xs) light (omega arith) x)
 
 module _ (n f : ℕ → ℕ) (end : ℕ) where
   table_row : (lo : ℕ) (ys : List ℕ) (i : ℕ) → i ≤ length ys → get_or (gaps_from n f lo (ys ++ (end ∷ []))) i no_gap ≡ gap n f (get_or (lo ∷ ys) i end) (get_or ys i end)
@@ -138,7 +138,7 @@ module _ (n f : ℕ → ℕ) (xs : List ℕ) (end : ℕ) (gs : List Gap) (is : t
         ∙ sym (score_append rate_score (left_blocks n f xs end (suc t)) (right_blocks n f xs end (suc t)))
 
     -- blocks of m pieces that begin at X start
-    steps_alike : (start m : ℕ) (bs : List (Block Rate)) → start + m ≤ suc k → All (Inside m) bs → All (λ b. table_step gs start b ≡ step_made (block_step n f xs end start b)) bs
+    steps_alike : (start m : ℕ) (bs : List (Block Rate)) → start + m ≤ suc k → AllByRecursion (Inside m) bs → AllByRecursion (λ b. table_step gs start b ≡ step_made (block_step n f xs end start b)) bs
     steps_alike start m [] r all = tt
     steps_alike start m (b ∷ bs) r all =
         let low = all.0.0 in
@@ -161,7 +161,7 @@ module _ (n f : ℕ → ℕ) (xs : List ℕ) (end : ℕ) (gs : List Gap) (is : t
       left_steps =
           map_alike (table_step gs 0) (λ b. step_made (block_step n f xs end 0 b)) (side_blocks gs k t Left)
           (steps_alike 0 t (side_blocks gs k t Left) (omega arith)
-          (subst (λ (m : ℕ). All (Inside m) (side_blocks gs k t Left)) (row_length (left_at gs) 0 t) (blocks_inside falling (row (left_at gs) 0 t) left_light)))
+          (subst (λ (m : ℕ). AllByRecursion (Inside m) (side_blocks gs k t Left)) (row_length (left_at gs) 0 t) (blocks_inside falling (row (left_at gs) 0 t) left_light)))
           ∙ sym (map_twice step_made (block_step n f xs end 0) (side_blocks gs k t Left))
           ∙ ap (λ (bs : List (Block Rate)). map step_made (map (block_step n f xs end 0) bs)) left_blocks_are
 
@@ -169,7 +169,7 @@ module _ (n f : ℕ → ℕ) (xs : List ℕ) (end : ℕ) (gs : List Gap) (is : t
       right_steps =
           map_alike (table_step gs (suc t)) (λ b. step_made (block_step n f xs end (suc t) b)) (side_blocks gs k t Right)
           (steps_alike (suc t) (k - t) (side_blocks gs k t Right) (omega arith)
-          (subst (λ (m : ℕ). All (Inside m) (side_blocks gs k t Right)) (row_length (right_at gs) t (k - t)) (blocks_inside rising (row (right_at gs) t (k - t)) right_light)))
+          (subst (λ (m : ℕ). AllByRecursion (Inside m) (side_blocks gs k t Right)) (row_length (right_at gs) t (k - t)) (blocks_inside rising (row (right_at gs) t (k - t)) right_light)))
           ∙ sym (map_twice step_made (block_step n f xs end (suc t)) (side_blocks gs k t Right))
           ∙ ap (λ (bs : List (Block Rate)). map step_made (map (block_step n f xs end (suc t)) bs)) right_blocks_are
 

@@ -1,7 +1,7 @@
 -- What holds of the curve with a given turning gap: its sums, its product and its score.
 use Rattle.std.proofs.Common.{◌≡◌, ℕ, zero, suc, ◌+◌, ◌-◌, ◌*◌, ◌^◌, ◌<◌, ◌≤◌, eqb, List, [], ◌∷◌, ◌++◌, map, length, ℤ, ◌+ℤ◌, sym, refl, ap, ◌∙◌, ap₂, arith}
 use native.Mathlib.Nat.{pow-zero}
-use Rattle.std.specs.List.{AllByRecursion as All}
+use Rattle.std.specs.List.{AllByRecursion}
 use Rattle.std.proofs.ByRecursion.{All-map, All-weaker}
 use Rattle.std.proofs.lemmas.List.{map-append}
 use Rattle.std.proofs.lemmas.Bool.{cond_both, eqb-true}
@@ -26,8 +26,8 @@ use Rattle.curves.proofs.Sides.{Marked, left_whole, right_whole, all_failures, a
 
 -- what the pieces of a turning gap keep
 pub record Sound (n f : ℕ → ℕ) (xs : List ℕ) (end j : ℕ) : Type 0 where
-  pub left : All WholePiece (left_pieces n f xs end j)
-  pub right : All WholePiece (right_pieces n f xs end j)
+  pub left : AllByRecursion WholePiece (left_pieces n f xs end j)
+  pub right : AllByRecursion WholePiece (right_pieces n f xs end j)
   pub failures : (pooled (left_pieces n f xs end j)).failures + (pooled (right_pieces n f xs end j)).failures ≡ total f xs
   pub exposure : (pooled (left_pieces n f xs end j)).exposure + gap_exposure n f xs end j + (pooled (right_pieces n f xs end j)).exposure ≡ upto n end
   pub empty : age xs end (j - 1) ≡ age xs end j → gap_exposure n f xs end j ≡ 0
@@ -61,7 +61,7 @@ parts_total g adds p =
     each (l ∷ ls) = ap₂ (λ x y. x + y) (adds l) (each ls)
 
 -- each is at most the sum
-all_within : {X : Type 0} (g : X → ℕ) (xs : List X) → All (λ x. g x ≤ total g xs) xs
+all_within : {X : Type 0} (g : X → ℕ) (xs : List X) → AllByRecursion (λ x. g x ≤ total g xs) xs
 all_within g [] = tt
 all_within g (x ∷ xs) = (omega arith, All-weaker (λ y. g y ≤ total g xs) (λ y. g y ≤ g x + total g xs) (λ y h. omega arith) xs (all_within g xs))
 
@@ -135,14 +135,14 @@ module _ (n f : ℕ → ℕ) (xs : List ℕ) (end j : ℕ) where
         omega (arith, both_total (λ x. x.exposure), parts_total (λ x. x.exposure) (λ l. refl) left_parts, parts_total (λ x. x.exposure) (λ l. refl) right_parts, s.exposure)
 
     -- the numbers of each block stay within 32 bits
-    pub both_scorable : All Scorable both
+    pub both_scorable : AllByRecursion Scorable both
     both_scorable = joined both (all_within (λ x. x.failures) both) (all_within (λ x. x.exposure) both) (All-map (λ x. 0 < x.exposure) block_piece _ (exposed (left_blocks n f xs end j ++ right_blocks n f xs end j)))
       where
-        exposed : (bs : List (Block Rate)) → All (λ b. 0 < rate_whole b.element) bs
+        exposed : (bs : List (Block Rate)) → AllByRecursion (λ b. 0 < rate_whole b.element) bs
         exposed [] = tt
         exposed (b ∷ bs) = (b.element.exposed, exposed bs)
 
-        joined : (ps : List Piece) → All (λ x. x.failures ≤ (pooled both).failures) ps → All (λ x. x.exposure ≤ (pooled both).exposure) ps → All (λ x. 0 < x.exposure) ps → All Scorable ps
+        joined : (ps : List Piece) → AllByRecursion (λ x. x.failures ≤ (pooled both).failures) ps → AllByRecursion (λ x. x.exposure ≤ (pooled both).exposure) ps → AllByRecursion (λ x. 0 < x.exposure) ps → AllByRecursion Scorable ps
         joined [] a b c = tt
         joined (p ∷ ps) a b c =
             let l = s.light in

@@ -1,6 +1,6 @@
 -- The blocks of a fit tile its pieces, have the max-min values, and move strictly in its direction.
 use Rattle.std.proofs.Common.{◌≡◌, ℕ, suc, ◌*◌, ◌<◌, ◌≤◌, true, false, List, [], ◌∷◌, map, length, sum_by, sym, refl, subst, inl, inr, arith}
-use Rattle.std.specs.List.{AllByRecursion as All}
+use Rattle.std.specs.List.{AllByRecursion}
 use Rattle.std.proofs.lemmas.Bool.{cases_Bool, and_parts, and_from, leb-false}
 use Rattle.arith.specs.Rivals.{Piece, Direction, falling, rising, Next, Chain}
 use Rattle.isotonic.specs.declared.blocks.Block.{Block}
@@ -56,7 +56,7 @@ Moves rising b c = Above c b
 
 pub record Laid (direction : Direction) (xs : List Rate) (bs : List (Block Rate)) : Type 0 where
   pub tiled : Tiled 0 bs (length xs)
-  pub values : (d : Rate) → All (HasValues (value direction (run rate_joined d xs) (length xs))) bs
+  pub values : (d : Rate) → AllByRecursion (HasValues (value direction (run rate_joined d xs) (length xs))) bs
   pub moves : Chain (Moves direction) bs
 
 module _ (direction : Direction) (over : ℕ → ℕ → Rate) (n : ℕ) where
@@ -65,7 +65,7 @@ module _ (direction : Direction) (over : ℕ → ℕ → Rate) (n : ℕ) where
   tiles_tiled lo (b ∷ bs) t = (t.0, tiles_tiled (suc b.last) bs t.5)
 
   tiles_values : ((i : ℕ) → i < n → level (order direction) (fits.rising (order direction) over n i) (value direction over n i) ≡ true)
-      → (lo : ℕ) (bs : List (Block Rate)) → Tiles (order direction) over n lo bs → (lo ≤ n) × All (HasValues (value direction over n)) bs
+      → (lo : ℕ) (bs : List (Block Rate)) → Tiles (order direction) over n lo bs → (lo ≤ n) × AllByRecursion (HasValues (value direction over n)) bs
   tiles_values agree lo [] t = (omega (arith, t), tt)
   tiles_values agree lo (b ∷ bs) t =
       let rest = tiles_values agree (suc b.last) bs t.5 in

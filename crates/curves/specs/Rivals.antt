@@ -1,6 +1,6 @@
 -- Rivals of a curve: what they expect, and their product.
 use Rattle.std.specs.Prelude.{◌≡◌, ℕ, suc, ◌<◌, ◌≤◌, List, ◌∷◌, ◌++◌, length}
-use Rattle.std.specs.List.{zip, AllByRecursion as All}
+use Rattle.std.specs.List.{zip, AllByRecursion}
 use Rattle.arith.specs.Fractions as fraction
 use Rattle.arith.specs.Fractions.{Fraction, AtMost}
 use Rattle.arith.specs.Rivals.{Chain, Rated, expected, rival_product}
@@ -25,7 +25,7 @@ pub record Rival (c : Counts) (shape : Shape) : Type 0 where
   pub right : List Fraction
   pub each_left : length left ≡ length (left_of c shape turning_gap)
   pub each_right : length right ≡ length (right_of c shape turning_gap)
-  pub denominators : All (λ r. 0 < r.denominator) (left ++ trough ∷ right)
+  pub denominators : AllByRecursion (λ r. 0 < r.denominator) (left ++ trough ∷ right)
   pub not_rising : Chain (λ r s. AtMost s r) left
   pub not_falling : Chain (λ r s. AtMost r s) right
 

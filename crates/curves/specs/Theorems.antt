@@ -1,6 +1,6 @@
 -- What is proved of the ages, the pieces and the steps of lawful counts.
 use Rattle.std.specs.Prelude.{◌≡◌, ℕ, suc, ◌*◌, ◌<◌, ◌≤◌, true, List, [], ◌∷◌, map, length, take, drop, ℤ, ◌≤ℤ◌, ◌<ℤ◌}
-use Rattle.std.specs.List.{AllByRecursion as All}
+use Rattle.std.specs.List.{AllByRecursion}
 use Rattle.arith.specs.Rivals.{Piece, Chain}
 use Rattle.arith.specs.Sums.{total}
 use Rattle.isotonic.specs.declared.blocks.Block.{Block}
@@ -75,7 +75,7 @@ module _ (c : Counts) (shape : Shape) (j : ℕ) where
 
   -- each piece has failures and exposure, so that its rate is over an exposure of at least 1
   abbrev pub PiecesStand : Type 0
-  PiecesStand = WhereAllowed (All WholePiece (left_of c shape j) × All WholePiece (right_of c shape j))
+  PiecesStand = WhereAllowed (AllByRecursion WholePiece (left_of c shape j) × AllByRecursion WholePiece (right_of c shape j))
 
   -- the steps go from 0 to the oldest age, end to end
   abbrev pub StepsJoin : Type 0
@@ -98,5 +98,5 @@ module _ (c : Counts) (shape : Shape) (j : ℕ) where
   abbrev pub ValuesStand : Type 0
   ValuesStand =
       WhereAllowed ((d : Rate)
-      → All (HasValues (falling rate_leq (pooled_left d) (length (left_of c shape j)))) (left_blocks_of c shape j)
-      × All (HasValues (rising rate_leq (pooled_right d) (length (right_of c shape j)))) (right_blocks_of c shape j))
+      → AllByRecursion (HasValues (falling rate_leq (pooled_left d) (length (left_of c shape j)))) (left_blocks_of c shape j)
+      × AllByRecursion (HasValues (rising rate_leq (pooled_right d) (length (right_of c shape j)))) (right_blocks_of c shape j))

@@ -1,6 +1,6 @@
 // The steps of a curve, written from the table of gaps once the turning gap is known.
 ghost use Rattle.std.specs.Prelude.{◌≡◌, ◌+◌, ◌-◌, ◌^◌, ◌<◌, ◌≤◌, map, length, drop, sum_by, slice_index_or};
-ghost use Rattle.std.specs.List.{AllByRecursion as All};
+ghost use Rattle.std.specs.List.{AllByRecursion};
 ghost use Rattle.isotonic.specs.Laws.{limit};
 ghost use Rattle.isotonic.specs.Stacks.{mirrored, stacked};
 ghost use Rattle.isotonic.specs.Theorems.{Inside, turned};
@@ -89,7 +89,7 @@ fn block_at(
     i: usize,
 ) -> Block<Rate>
     requires low { (i < height) × (height ≤ length blocks.now) }
-    requires inside { All (Inside size) (piled blocks.now height) }
+    requires inside { AllByRecursion (Inside size) (piled blocks.now height) }
     ensures inside { Inside size result }
     ensures is { result ≡ slice_index_or (in_age_order side size (piled blocks.now height)) i result }
 {
@@ -138,7 +138,7 @@ fn write_side(
     requires low { height ≤ length blocks.now }
     requires room { at + height ≤ length steps.old }
     requires reach { start + size ≤ length gaps.now }
-    requires inside { All (Inside size) (piled blocks.now height) }
+    requires inside { AllByRecursion (Inside size) (piled blocks.now height) }
     requires light { sum_by (λ b. rate_bulk b.element) (in_age_order side size (piled blocks.now height)) ≤ limit }
     ensures score { result ≡ blocks_score rate_score (in_age_order side size (piled blocks.now height)) }
     ensures steps { steps.new ≡ laid_at at (map (table_step gaps.now start) (in_age_order side size (piled blocks.now height))) steps.old }

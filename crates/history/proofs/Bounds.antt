@@ -1,6 +1,6 @@
 -- Every life that is judged, and every life of an archive, has its bounds.
 use Rattle.std.proofs.Common.{◌≡◌, ℕ, zero, suc, ◌+◌, ◌<◌, ◌≤◌, Bool, true, false, cond, eqb, ltb, leb, List, get_or, Ok, Err, Result, refl}
-use Rattle.std.specs.List.{AllByRecursion as All}
+use Rattle.std.specs.List.{AllByRecursion}
 use Rattle.std.proofs.lemmas.Bool.{and_parts, ltb-true, leb-true}
 use Rattle.units.specs.Hours.{last_tick, hours_age}
 use Rattle.units.specs.Refusals.{Refused, refused}
@@ -40,14 +40,14 @@ said serial (Ok s) (Err e) b = tt
 said serial (Ok s) (Ok a) (Err e) = tt
 said serial (Ok s) (Ok a) (Ok b) = judged (record { serial = serial; entry = a; exit = b; status = status_code s })
 
-one : (j : Result PlainLife Refused) → Gives LifeBounded j → Gives (All Bounded) (one_life j)
+one : (j : Result PlainLife Refused) → Gives LifeBounded j → Gives (AllByRecursion Bounded) (one_life j)
 one (Ok l) g = (g, tt)
 one (Err e) g = tt
 
-pub entry_bounded : (u : UncheckedLife) → Gives (All Bounded) (one_life (judge u))
+pub entry_bounded : (u : UncheckedLife) → Gives (AllByRecursion Bounded) (one_life (judge u))
 entry_bounded u = one (judge u) (judged u)
 
-pub row_bounded : (r : PlainRow) → Gives (All Bounded) (one_life (row_life r))
+pub row_bounded : (r : PlainRow) → Gives (AllByRecursion Bounded) (one_life (row_life r))
 row_bounded r = one (row_life r) (said r.serial (status_word r.status) (hours_age r.from) (hours_age r.to))
 
 -- ---- an archive
@@ -62,25 +62,25 @@ place_bounded a b x k =
     let q = and_parts (eqb (kind_of x) 5) (ltb (payload_of b) (payload_of x)) p.0 in
     (ltb-true (payload_of b) (payload_of x) q.1, leb-true (payload_of x) last_tick p.1)))))
 
-join_bounded : (i : ℕ) (r : Result PlainPlace ℕ) (rest : Result (List PlainPlace) ℕ) → Gives Bounded r → Gives (All Bounded) rest → Gives (All Bounded) (join_place i r rest)
+join_bounded : (i : ℕ) (r : Result PlainPlace ℕ) (rest : Result (List PlainPlace) ℕ) → Gives Bounded r → Gives (AllByRecursion Bounded) rest → Gives (AllByRecursion Bounded) (join_place i r rest)
 join_bounded i (Err o) rest g gs = tt
 join_bounded i (Ok p) (Err e) g gs = tt
 join_bounded i (Ok p) (Ok ps) g gs = (g, gs)
 
-places_bounded : (m i : ℕ) (ws : List ℕ) → Gives (All Bounded) (places_from m i ws)
+places_bounded : (m i : ℕ) (ws : List ℕ) → Gives (AllByRecursion Bounded) (places_from m i ws)
 places_bounded zero i ws = tt
 places_bounded (suc m) i ws =
     join_bounded i (place_from (get_or ws i 0) (get_or ws (i + 1) 0) (get_or ws (i + 2) 0) (get_or ws (i + 3) 0)) (places_from m (i + 4) ws)
     (place_bounded (get_or ws i 0) (get_or ws (i + 1) 0) (get_or ws (i + 2) 0) (get_or ws (i + 3) 0)) (places_bounded m (i + 4) ws)
 
-checked_bounded : (ws : List ℕ) (r : Result (List PlainPlace) ℕ) → Gives (All Bounded) r → Gives (All Bounded) (checked ws r)
+checked_bounded : (ws : List ℕ) (r : Result (List PlainPlace) ℕ) → Gives (AllByRecursion Bounded) r → Gives (AllByRecursion Bounded) (checked ws r)
 checked_bounded ws (Err p) g = tt
-checked_bounded ws (Ok ps) g = under (All Bounded) (check_right ws) (Ok ps) _ (λ _. g)
+checked_bounded ws (Ok ps) g = under (AllByRecursion Bounded) (check_right ws) (Ok ps) _ (λ _. g)
 
-framed_bounded : (ws : List ℕ) (r : Result ℕ Refused) → Gives (All Bounded) (decode_lives ws r)
+framed_bounded : (ws : List ℕ) (r : Result ℕ Refused) → Gives (AllByRecursion Bounded) (decode_lives ws r)
 framed_bounded ws (Err e) = tt
 framed_bounded ws (Ok m) = checked_bounded ws (places_from m 2 ws) (places_bounded m 2 ws)
 
-pub load_bounded : (ws : List ℕ) → Gives (All Bounded) (decode ws)
+pub load_bounded : (ws : List ℕ) → Gives (AllByRecursion Bounded) (decode ws)
 unfolding decode
 load_bounded ws = framed_bounded ws (frame_of ws)

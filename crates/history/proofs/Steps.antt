@@ -1,6 +1,6 @@
 -- One call: the study and the plain list agree before it and after it.
 use Rattle.std.proofs.Common.{◌≡◌, ℕ, zero, suc, ◌+◌, ◌≤◌, min, Bool, true, false, cond, eqb, ltb, leb, List, [], ◌∷◌, ◌++◌, length, drop, Some, None, Ok, Err, Option, Result, sym, refl, ap, ◌∙◌, subst, ap₂, ⊎_elim, arith}
-use Rattle.std.specs.List.{AllByRecursion as All}
+use Rattle.std.specs.List.{AllByRecursion}
 use Rattle.std.proofs.ByRecursion.{All-append}
 use Rattle.std.proofs.lemmas.List.{length-append, length-drop, length_push, drop-drop}
 use Rattle.std.proofs.lemmas.Bool.{true≢false, cases_lt, leb-true, lt-ltb, le-ltb, le-leb, lt-leb, ne_eqb}
@@ -18,7 +18,7 @@ use Rattle.history.proofs.Bounds.{Gives, entry_bounded, row_bounded, load_bounde
 -- a list that a study over n places can hold
 pub record Fits-in (n : ℕ) (ps : List PlainPlace) : Type 0 where
   pub few : length ps ≤ min most_places n
-  pub bounded : All Bounded ps
+  pub bounded : AllByRecursion Bounded ps
 
 -- What a call does to a study that holds the list ps, where o refuses it, qs is the list after it and v is its value.
 pub record Agrees (m ps : List PlainPlace) (o : Option Refused) (qs : List PlainPlace) (v : ℕ) (after : Held) (answer : Result ℕ Refused) : Type 0 where
@@ -36,7 +36,7 @@ room_laid m ps f = ap (min most_places) (omega (arith, length-drop (length ps) m
 -- ---- lives that are added
 
 -- lives qs, where b tells whether there are places for them
-adding : (m ps qs : List PlainPlace) (v : ℕ) (b : Bool) (h : Held) → Fits-in (length m) ps → All Bounded qs → (b ≡ true → length ps + length qs ≤ min most_places (length m)) → h ≡ laid m (ps ++ qs)
+adding : (m ps qs : List PlainPlace) (v : ℕ) (b : Bool) (h : Held) → Fits-in (length m) ps → AllByRecursion Bounded qs → (b ≡ true → length ps + length qs ≤ min most_places (length m)) → h ≡ laid m (ps ++ qs)
     → Agrees m ps (cond b None (Some (refused 9))) (ps ++ qs) v (cond b h (laid m ps)) (cond b (Ok v) (Err (refused 9)))
 adding m ps qs v false h f bounded room e = unchanged m ps (ps ++ qs) v (refused 9) f
 adding m ps qs v true h f bounded room e = record {
@@ -48,7 +48,7 @@ adding m ps qs v true h f bounded room e = record {
 next_fits : (a k : ℕ) → ltb a k ≡ leb (a + 1) k
 next_fits a k = ⊎_elim (λ h. lt-ltb a k h ∙ sym (le-leb (a + 1) k (omega arith))) (λ h. le-ltb a k h ∙ sym (lt-leb (a + 1) k (omega arith))) (cases_lt a k)
 
-entered : (m ps : List PlainPlace) (j : Result PlainLife Refused) → Fits-in (length m) ps → Gives (All Bounded) (one_life j)
+entered : (m ps : List PlainPlace) (j : Result PlainLife Refused) → Fits-in (length m) ps → Gives (AllByRecursion Bounded) (one_life j)
     → Agrees m ps (adding_refusal (length m) ps (one_life j)) (added ps (one_life j)) (length ps) (enter_after (laid m ps) j) (enter_answer (laid m ps) j)
 entered m ps (Err e) f g = unchanged m ps ps (length ps) e f
 entered m ps (Ok l) f g =
@@ -62,7 +62,7 @@ entered m ps (Ok l) f g =
     (λ i. record { places = ps ++ x ∷ []; spare = spare i }))
 
 -- a load finds the list empty, or is refused
-into_empty : (m : List PlainPlace) (r : Result (List PlainPlace) Refused) → Fits-in (length m) [] → Gives (All Bounded) r
+into_empty : (m : List PlainPlace) (r : Result (List PlainPlace) Refused) → Fits-in (length m) [] → Gives (AllByRecursion Bounded) r
     → Agrees m [] (adding_refusal (length m) [] r) (added [] r) (length (added [] r)) (room_after (laid m []) r) (room_answer (room (laid m [])) r)
 into_empty m (Err e) f g = unchanged m [] [] 0 e f
 into_empty m (Ok qs) f g =
@@ -89,7 +89,7 @@ length_struck [] i = refl
 length_struck (p ∷ ps) zero = refl
 length_struck (p ∷ ps) (suc i) = ap suc (length_struck ps i)
 
-bounded_struck : (ps : List PlainPlace) (i : ℕ) → All Bounded ps → All Bounded (struck_at ps i)
+bounded_struck : (ps : List PlainPlace) (i : ℕ) → AllByRecursion Bounded ps → AllByRecursion Bounded (struck_at ps i)
 bounded_struck [] i g = g
 bounded_struck (p ∷ ps) zero g = g
 bounded_struck (p ∷ ps) (suc i) g = (g.0, bounded_struck ps i g.1)

@@ -1,6 +1,6 @@
 -- The blocks of a fit: their bulks, and the pieces that they name.
 use Rattle.std.proofs.Common.{ℕ, suc, ◌+◌, ◌<◌, ◌≤◌, Bool, List, [], ◌∷◌, length, sum_by, subst, arith}
-use Rattle.std.specs.List.{AllByRecursion as All}
+use Rattle.std.specs.List.{AllByRecursion}
 use Rattle.std.proofs.lemmas.List.{length-reverse}
 use Rattle.std.proofs.lemmas.List.Sums.{sum_by-cons}
 use Rattle.std.proofs.lemmas.Bool.{cond_both}
@@ -14,7 +14,7 @@ use Rattle.isotonic.proofs.Derived.{bulk_joined}
 use Rattle.isotonic.proofs.Mirror.{sumBy_reverse}
 use Rattle.isotonic.proofs.Pushed.{pushed_height, stacked_fits}
 
-tiles_inside : {V : Type 0} (leq : V → V → Bool) (over : ℕ → ℕ → V) (n lo : ℕ) (bs : List (Block V)) → Tiles leq over n lo bs → (lo ≤ n) × All (Inside n) bs
+tiles_inside : {V : Type 0} (leq : V → V → Bool) (over : ℕ → ℕ → V) (n lo : ℕ) (bs : List (Block V)) → Tiles leq over n lo bs → (lo ≤ n) × AllByRecursion (Inside n) bs
 tiles_inside leq over n lo [] t = (omega (arith, t), tt)
 tiles_inside leq over n lo (b ∷ bs) t =
     let rest = tiles_inside leq over n (suc b.last) bs t.5 in
@@ -57,5 +57,5 @@ module _ {V : Type 0} {leq : V → V → Bool} {joined : V → V → V} {bulk : 
         (omega (arith, sumBy_reverse weight (stacked leq joined xs), stacked_bulk [] 0 xs))
 
     -- they are blocks of those pieces
-    pub rising_inside : 0 < length xs → V → All (Inside (length xs)) (rising_blocks leq joined xs)
+    pub rising_inside : 0 < length xs → V → AllByRecursion (Inside (length xs)) (rising_blocks leq joined xs)
     rising_inside some d = (tiles_inside leq (run joined d xs) (length xs) 0 (rising_blocks leq joined xs) (blocks_tile laws xs light some d)).1

@@ -2,7 +2,7 @@
 use Rattle.std.proofs.Common.{◌≡◌, ℕ, ◌-◌, ◌<◌, Bool, true, false, ◌||◌, eqb, ltb, List, [], ◌∷◌, length, take, drop, IsUtf8, sym, refl, ap, ◌∙◌, inl, inr, one-add, arith}
 use Rattle.std.specs.Float.Parse.{is_float_text, is_infinity_text, is_nan_text, completes_number, without_sign}
 use Rattle.std.specs.Char.{is_ascii_digit}
-use Rattle.std.specs.List.{prefix_len, AllByRecursion as All}
+use Rattle.std.specs.List.{prefix_len, AllByRecursion}
 use Rattle.std.proofs.ByRecursion.{IsAscii-from_all}
 use Rattle.std.proofs.lemmas.List.{take_rest}
 use Rattle.std.proofs.lemmas.Bool.{and_parts, cases_Bool, eqb-true, false≢true, lt-ltb, or_left}
@@ -25,7 +25,7 @@ minus_is bs h = ap unsigned_hours (take_rest bs 1) ∙ simp h
 
 -- all bytes are ASCII, and a reader that has come to s goes on to the end
 abbrev Reads : ℕ → List ℕ → Type 0
-Reads s bs = (completes_number s bs ≡ true) × All (λ b. b < 128) bs
+Reads s bs = (completes_number s bs ≡ true) × AllByRecursion (λ b. b < 128) bs
 
 digit_small : (c : ℕ) → is_ascii_digit c ≡ true → c < 128
 digit_small c h = grind (arith, nat_tests)
@@ -71,7 +71,7 @@ first_digit c cs h =
 no_plus : (c : ℕ) → is_ascii_digit c ≡ true → eqb c 43 ≡ false
 no_plus c h = grind (arith, nat_tests)
 
-hours_read : (bs : List ℕ) → hours_form bs ≡ true → (is_float_text bs ≡ true) × All (λ b. b < 128) bs
+hours_read : (bs : List ℕ) → hours_form bs ≡ true → (is_float_text bs ≡ true) × AllByRecursion (λ b. b < 128) bs
 hours_read [] h = absurd (false≢true h)
 hours_read (c ∷ cs) h =
     elim (cases_Bool (eqb c 45)) [

@@ -3,7 +3,7 @@ use Rattle.std.proofs.Common.{◌≡◌, ℕ, ◌^◌, ◌<◌, ◌≤◌, Bool,
 use Rattle.std.specs.Str.Parse.{AllDigits, IsNumeral, ParsesUnsigned, digits_value}
 use Rattle.std.specs.Result.{result_ok}
 use Rattle.std.specs.Char.{digit_value}
-use Rattle.std.specs.List.{AllByRecursion as All}
+use Rattle.std.specs.List.{AllByRecursion}
 use Rattle.std.proofs.ByRecursion.{IsAscii-from_all}
 use Rattle.std.proofs.lemmas.Str.Parse.{without_leading_plus_none}
 use Rattle.std.proofs.lemmas.Bool.{and_parts, and_from, cases_Bool, eqb-false, eqb-true, lt-ltb, ltb-true}
@@ -60,7 +60,7 @@ number_read radix bs (Err e) h reads =
 digit_ascii : (c radix : ℕ) → radix ≤ 36 → digit_value c < radix → c < 128
 digit_ascii c radix top h = grind (arith, nat_tests)
 
-digits_ascii : (radix : ℕ) (bs : List ℕ) → radix ≤ 36 → AllDigits radix bs → All (λ b. b < 128) bs
+digits_ascii : (radix : ℕ) (bs : List ℕ) → radix ≤ 36 → AllDigits radix bs → AllByRecursion (λ b. b < 128) bs
 digits_ascii radix [] top h = tt
 digits_ascii radix (c ∷ cs) top h = (digit_ascii c radix top h.0, digits_ascii radix cs top h.1)
 

@@ -1,6 +1,6 @@
 -- The rising fit of the shares of a sheet.
 use Rattle.std.proofs.Common.{◌≡◌, ℕ, zero, suc, ◌-◌, ◌<◌, ◌≤◌, false, cond, ◌||◌, eqb, ltb, List, [], ◌∷◌, map, length, take, ℤ, Some, None, Ok, sum_by, Option, sym, ap, ◌∙◌, subst, arith}
-use Rattle.std.specs.List.{AllByRecursion as All}
+use Rattle.std.specs.List.{AllByRecursion}
 use Rattle.std.proofs.lemmas.List.{length-map}
 use Rattle.std.proofs.lemmas.Bool.{cond-false, le-ltb}
 use Rattle.units.specs.Refusals.{Refused, refused}
@@ -67,12 +67,12 @@ module _ (shares : List Share) (before after : List (Block Share)) (count : ℕ)
   pub fit_bulk : sum_by (λ b. share_bulk b.element) (take (count - 0) after) ≤ limit
   fit_bulk = subst (λ (bs : List (Block Share)). sum_by (λ b. share_bulk b.element) bs ≤ limit) (sym taken) (omega (arith, rising_bulk share_laws shares light))
 
-  pub fit_inside : (n : ℕ) → n ≡ length shares → All (Inside n) (take (count - 0) after)
+  pub fit_inside : (n : ℕ) → n ≡ length shares → AllByRecursion (Inside n) (take (count - 0) after)
   fit_inside n even =
-      subst (λ (bs : List (Block Share)). All (Inside n) bs) (sym taken)
-      (subst (λ (k : ℕ). All (Inside k) blocks) (sym even) (inside shares light (some_piece (length shares) not_empty)))
+      subst (λ (bs : List (Block Share)). AllByRecursion (Inside n) bs) (sym taken)
+      (subst (λ (k : ℕ). AllByRecursion (Inside k) blocks) (sym even) (inside shares light (some_piece (length shares) not_empty)))
     where
-      inside : (xs : List Share) → sum_by share_bulk xs ≤ limit → 0 < length xs → All (Inside (length xs)) (rising_blocks share_leq share_joined xs)
+      inside : (xs : List Share) → sum_by share_bulk xs ≤ limit → 0 < length xs → AllByRecursion (Inside (length xs)) (rising_blocks share_leq share_joined xs)
       inside [] l h = absurd (omega arith)
       inside (x ∷ xs) l h = rising_inside share_laws (x ∷ xs) l h x
 

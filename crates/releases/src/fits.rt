@@ -1,6 +1,6 @@
 // Growth over the releases.
 ghost use Rattle.std.specs.Prelude.{◌≡◌, ◌*◌, ◌≤◌, map, length, take, sum_by};
-ghost use Rattle.std.specs.List.{AllByRecursion as All};
+ghost use Rattle.std.specs.List.{AllByRecursion};
 ghost use Rattle.units.specs.Refusals.{answer};
 ghost use Rattle.isotonic.specs.Laws.{limit};
 ghost use Rattle.isotonic.specs.MaxMin.{on_element};
@@ -68,7 +68,7 @@ fn gather(rows: &[Row], shares: &mut [Share], releases: &mut [u32]) -> usize
 // Writes blocks as steps. Answers their score.
 fn write_steps(blocks: &[Block<Share>], releases: &[u32], steps: &mut [GrowthStep]) -> i64
     requires room { length blocks.now ≤ length steps.old }
-    requires inside { All (Inside (length releases.now)) blocks.now }
+    requires inside { AllByRecursion (Inside (length releases.now)) blocks.now }
     requires light { sum_by (λ b. share_bulk b.element) blocks.now ≤ limit }
     ensures score { result ≡ blocks_score share_score blocks.now }
     ensures memory { steps.new ≡ written (map (growth_step releases.now) (map (on_element share_ratio) blocks.now)) steps.old }

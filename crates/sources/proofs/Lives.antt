@@ -2,7 +2,7 @@
 use Rattle.std.proofs.Common.{◌≡◌, ℕ, zero, suc, ◌+◌, ◌-◌, ◌<◌, ◌≤◌, min, max, Bool, true, false, cond, not, ltb, leb, ◌⊎◌, List, [], ◌∷◌, ◌++◌, map, length, get_or, take, sym, refl, ap, ◌∙◌, inl, inr, arith}
 use Rattle.std.proofs.lemmas.Bool.{and_from, and_left, and_right, le-leb, lt-leb, lt-ltb, le-ltb, cond-true, cond-false, cases_lt, cases_Bool, not_from_false, not_from_true}
 use Rattle.std.proofs.lemmas.List.{map_more, length-map}
-use Rattle.std.specs.List.{AllByRecursion as All}
+use Rattle.std.specs.List.{AllByRecursion}
 use Rattle.units.specs.Hours.{last_tick}
 use Rattle.lives.specs.Lives.{PlainPlace, plain}
 use Rattle.lives.specs.Studies.{sealed}
@@ -110,7 +110,7 @@ life_between p ok from to =
       | inr s ↦ clipped e x from to _ _ ok.0 (clip e x from _ ok.0 (life_upto p ok s from)) (clip e x to _ ok.0 (life_upto p ok s to)) ∙ sym (cond-false {A = ℕ} p.struck 0 (min x to - max e from) s)
     ]
 
-pub lives_between : (ps : List PlainPlace) → All Bounded ps → (from to : ℕ) → between (λ t. count (watched_at t) ps) from to ≡ ticks_of_all ps from to
+pub lives_between : (ps : List PlainPlace) → AllByRecursion Bounded ps → (from to : ℕ) → between (λ t. count (watched_at t) ps) from to ≡ ticks_of_all ps from to
 lives_between [] ok from to = let v = upto_void (λ t. count (watched_at t) []) (λ t. refl) in omega (arith, v from, v to)
 lives_between (p ∷ ps) ok from to =
     let a = λ (t : ℕ). count (watched_at t) ps in

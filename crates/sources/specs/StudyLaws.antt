@@ -1,7 +1,7 @@
 -- The counts of a sealed study are lawful.
 use Rattle.std.specs.Prelude.{◌≡◌, ℕ, ◌<◌, ◌≤◌, Bool, true, false, cond, not, ◌&&◌, ◌⊎◌, List, [], ◌∷◌, map, length, take, ◌==◌, nat_le, nat_lt, refl}
 use Rattle.std.proofs.Common.{inl, inr, arith, length-take}
-use Rattle.std.specs.List.{AllByRecursion as All}
+use Rattle.std.specs.List.{AllByRecursion}
 use Rattle.std.proofs.lemmas.List.{length-map}
 use Rattle.std.proofs.lemmas.Bool.{and_parts, and_from, and_left, and_right, eqb-true, le-leb, lt-leb, lt-ltb, le-ltb, cond-true, cond-false}
 use Rattle.units.specs.Hours.{last_tick}
@@ -31,14 +31,14 @@ failed_watched t p ok e =
     let x = eqb-true p.life.exit t b.1 in
     and_from (not p.struck) _ a.0 (and_from (nat_lt p.life.entry t) (nat_le t p.life.exit) (lt-ltb p.life.entry t (omega (arith, x, ok.0))) (le-leb t p.life.exit (omega (arith, x))))
 
-count_within : (t : ℕ) (ps : List PlainPlace) → All Bounded ps → count (failed_at t) ps ≤ count (watched_at t) ps
+count_within : (t : ℕ) (ps : List PlainPlace) → AllByRecursion Bounded ps → count (failed_at t) ps ≤ count (watched_at t) ps
 count_within t [] ok = omega arith
 count_within t (p ∷ ps) ok = elim (tested (failed_at t p)) [
   | inl a ↦ omega (arith, a.1, cond-true {A = ℕ} (watched_at t p) 1 0 (failed_watched t p ok.0 a.0), count_within t ps ok.1)
   | inr a ↦ omega (arith, a.1, count_within t ps ok.1)
 ]
 
-count_none : (q : PlainPlace → Bool) → ((p : PlainPlace) → Bounded p → q p ≡ false) → (ps : List PlainPlace) → All Bounded ps → count q ps ≡ 0
+count_none : (q : PlainPlace → Bool) → ((p : PlainPlace) → Bounded p → q p ≡ false) → (ps : List PlainPlace) → AllByRecursion Bounded ps → count q ps ≡ 0
 count_none q e [] ok = refl
 count_none q e (p ∷ ps) ok = omega (arith, cond-false {A = ℕ} (q p) 1 0 (e p ok.0), count_none q e ps ok.1)
 
@@ -60,7 +60,7 @@ count_all : (ps : List PlainPlace) (n : ℕ) → upto (λ t. count (failed_at t)
 count_all [] n = omega (arith, upto_void (λ t. count (failed_at t) []) (λ t. refl) n)
 count_all (p ∷ ps) n = omega (arith, upto_add (λ t. count (failed_at t) ps) (λ t. cond (failed_at t p) 1 0) n, fails_once p n, count_all ps n)
 
-pub study_laws : (ps : List PlainPlace) → All Bounded ps → length ps ≤ most_failures → Lawful (study_watched ps) (study_failed ps)
+pub study_laws : (ps : List PlainPlace) → AllByRecursion Bounded ps → length ps ≤ most_failures → Lawful (study_watched ps) (study_failed ps)
 unfolding study_watched study_failed
 study_laws ps ok short =
     let ends : (t : ℕ) → last_tick < t → count (watched_at t) ps ≡ 0 = λ t h. count_none (watched_at t) (λ p b. and_right (not p.struck) _ (and_right (nat_lt p.life.entry t) (nat_le t p.life.exit) (lt-leb t p.life.exit (omega (arith, b.1))))) ps ok in
@@ -74,7 +74,7 @@ study_laws ps ok short =
     }
 
 -- every life carries its bounds
-pub places_bounded : (ps : List Place) → All Bounded (map plain ps)
+pub places_bounded : (ps : List Place) → AllByRecursion Bounded (map plain ps)
 places_bounded [] = tt
 places_bounded (p ∷ ps) = ((p.life.ok.2, p.life.ok.3), places_bounded ps)
 
