@@ -3,6 +3,7 @@ use Rattle.std.specs.Prelude.{◌≡◌, ℕ, ◌+◌, ◌*◌, ◌<◌, ◌≤�
 use Rattle.std.proofs.Common.{sym, ap, ◌∙◌, mul_right_comm, mul-add, add-mul, mul-le-mul_right, le_of_mul-le-mul_right, arith}
 use Rattle.std.proofs.lemmas.Bool.{leb-true, leb-false, le-leb, lt-leb, cond-true, cond-false}
 use Rattle.isotonic.specs.Laws.{Laws, limit, Commutes}
+use Rattle.isotonic.proofs.Falling.{turned_laws}
 use Rattle.pooling.specs.Ratios.{ratio_leq, within_limit}
 use Rattle.pooling.specs.Turns.{unturned, turned_leq, turned_joined, turned_bulk}
 use Rattle.pooling.specs.declared.kinds.Turned.{Turned}
@@ -82,15 +83,17 @@ module _ {V : Type 0} {part whole bulk : V → ℕ} {sum : V → V → V} (adds 
 abbrev turn : {V : Type 0} → V → Turned V
 turn v = record { 0 = v }
 
--- a kind in the turned order keeps the laws
+-- a kind in the turned order keeps the laws: they are those of its elements, turned
 pub unturned_laws : {V : Type 0} {leq : V → V → Bool} {joined : V → V → V} {bulk : V → ℕ} → Laws leq joined bulk → Laws (turned_leq leq) (turned_joined joined) (turned_bulk bulk)
-unturned_laws {V = V} laws = record {
-  total = λ x y h. laws.total (unturned y) (unturned x) h;
-  trans = λ x y z h k. laws.trans (unturned z) (unturned y) (unturned x) k h;
-  assoc = λ x y z h. ap (turn) (laws.assoc (unturned x) (unturned y) (unturned z) h);
-  between_up = λ x y h k. laws.between_down (unturned x) (unturned y) h k;
-  between_down = λ x y h k. laws.between_up (unturned x) (unturned y) h k;
-  equal = λ x y h l k. let same = laws.equal (unturned x) (unturned y) h k l in (same.1, same.0);
-  bulk_within = λ x y h. laws.bulk_within (unturned x) (unturned y) h;
-  past_limit = λ x y h. ap (turn) (laws.past_limit (unturned x) (unturned y) h);
-}
+unturned_laws laws =
+    let of = turned_laws laws in
+    record {
+      total = λ x y. of.total (unturned x) (unturned y);
+      trans = λ x y z. of.trans (unturned x) (unturned y) (unturned z);
+      assoc = λ x y z h. ap turn (of.assoc (unturned x) (unturned y) (unturned z) h);
+      between_up = λ x y. of.between_up (unturned x) (unturned y);
+      between_down = λ x y. of.between_down (unturned x) (unturned y);
+      equal = λ x y. of.equal (unturned x) (unturned y);
+      bulk_within = λ x y. of.bulk_within (unturned x) (unturned y);
+      past_limit = λ x y h. ap turn (of.past_limit (unturned x) (unturned y) h);
+    }
