@@ -13,7 +13,7 @@ const TICKS_PER_HOUR: f64 = 4.0;
 const LAST_HOURS: f64 = 524287.75;
 
 impl Age {
-    // Four times the hours, where that is a whole number of ticks from 0 to 2,097,151.
+    // Four times the hours, where that is a whole number of ticks from 0 to 2,097,151. The unit stands in the name, where a `TryFrom<f64>` would not say it.
     pub fn from_hours(hours: f64) -> Result<Age, Refusal>
         ensures value { seen age_ticks result ≡ hours_age hours }
         ensures exact { MatchResult result (λ a. IsTicks hours (age_ticks a)) (λ _. (t : ℕ) → IsTicks hours t → ⊥) }

@@ -1,6 +1,9 @@
 // Why a call was refused. The numbers are part of the rules.
-ghost use Rattle.std.specs.Prelude.{◌≡◌};
+ghost use Rattle.std.specs.Prelude.{◌≡◌, Some};
 ghost use Rattle.units.specs.Refusals.{number_of, place_of, told};
+ghost use Rattle.units.specs.Texts.{layer_text, place_text, refusal_text};
+
+use std::fmt;
 
 // The part of an archive that a word belongs to: the frame around the lives, or a life.
 #[derive(Clone, Copy, PartialEq, Eq, Debug)]
@@ -9,11 +12,30 @@ pub enum Layer {
     Life,
 }
 
+impl fmt::Display for Layer {
+    ghost output = { λ layer. Some (layer_text layer) };
+
+    fn fmt<W: fmt::Write>(&self, f: &mut fmt::Formatter<W>) -> fmt::Result {
+        f.write_str(match self {
+            Layer::Frame => "frame",
+            Layer::Life => "life",
+        })
+    }
+}
+
 // Where an archive is damaged: the place of a word, counted from 0 (for a bad length: the number of words), and its layer.
 #[derive(Clone, Copy, PartialEq, Eq, Debug)]
 pub struct WordPlace {
     pub layer: Layer,
     pub place: usize,
+}
+
+impl fmt::Display for WordPlace {
+    ghost output = { λ at. Some (place_text at) };
+
+    fn fmt<W: fmt::Write>(&self, f: &mut fmt::Formatter<W>) -> fmt::Result {
+        write!(f, "{} {}", self.layer, self.place)
+    }
 }
 
 #[derive(Clone, Copy, PartialEq, Eq, Debug)]
@@ -55,6 +77,7 @@ pub enum Refusal {
 }
 
 impl Refusal {
+    // The number of the rules. A method with this name: `u32::from` would not say which number.
     pub fn number(self) -> u32
         ensures { result ≡ number_of (told self) }
     {
@@ -86,6 +109,19 @@ impl Refusal {
         match self {
             Refusal::BadLength(at) | Refusal::BadWord(at) | Refusal::BadCheck(at) => Some(at),
             _ => None,
+        }
+    }
+}
+
+// The number in two digits, and where an archive is damaged its layer and place.
+impl fmt::Display for Refusal {
+    ghost output = { λ refusal. Some (refusal_text (told refusal)) };
+
+    fn fmt<W: fmt::Write>(&self, f: &mut fmt::Formatter<W>) -> fmt::Result {
+        write!(f, "{:02}", self.number())?;
+        match self.word_place() {
+            Some(at) => write!(f, " {at}"),
+            None => Ok(()),
         }
     }
 }
