@@ -1,9 +1,7 @@
 -- A stack of blocks in memory.
-use Rattle.std.proofs.Common.{◌≡◌, ℕ, suc, ◌+◌, ◌-◌, ◌<◌, ◌≤◌, min, List, [], ◌∷◌, ◌++◌, reverse, length, get_or, take, drop, set, Some, None, sym, ap, ◌∙◌, inl, inr, append_assoc, arith}
-use Rattle.std.proofs.lemmas.List.{set_split, reverse-append, reverse-reverse, length-reverse, length-take-le, length-drop, length-append, take_at, drop_at, drop-drop, take_all}
-use Rattle.std.proofs.lemmas.Bool.{cases_lt}
-use Rattle.isotonic.specs.Stacks.{stack_in, top_of, laid_in}
-use Rattle.isotonic.proofs.Pushed.{top_is}
+use Rattle.std.proofs.Common.{◌≡◌, ℕ, suc, ◌+◌, ◌-◌, ◌<◌, ◌≤◌, List, [], ◌∷◌, ◌++◌, reverse, length, take, drop, set, sym, ap, ◌∙◌, append_assoc, arith}
+use Rattle.std.proofs.lemmas.List.{set_split, reverse-append, reverse-reverse, length-reverse, length-take-le, length-drop, length-append, take_at, drop_at, drop-drop}
+use Rattle.isotonic.specs.Stacks.{stack_in, laid_in}
 
 module _ {X : Type 0} where
   pub stack_length : (ms : List X) (h : ℕ) → h ≤ length ms → length (stack_in ms h) ≡ h
@@ -33,18 +31,3 @@ module _ {X : Type 0} where
     where
       parts : k ≡ length stack + (k - length stack)
       parts = omega arith
-
-  -- the top of a stack whose height is cut to the length of its memory
-  module _ (ms : List X) (h used : ℕ) (is : used ≡ min h (length ms)) where
-    stack_used : stack_in ms h ≡ stack_in ms used
-    stack_used =
-        elim (cases_lt h (length ms)) [
-          | inl l ↦ let same : h ≡ used = omega arith in ap (stack_in ms) same
-          | inr l ↦ ap reverse (take_all h ms l ∙ sym (take_all used ms (omega arith)))
-        ]
-
-    pub top_none : used ≡ 0 → None ≡ top_of (stack_in ms h)
-    top_none none = sym (ap top_of (stack_used ∙ ap (stack_in ms) none))
-
-    pub top_some : (x : X) → 0 < used → x ≡ get_or ms (used - 1) x → Some x ≡ top_of (stack_in ms h)
-    top_some x some read = sym (ap top_of (stack_used ∙ top_is ms used x some (omega arith) read))

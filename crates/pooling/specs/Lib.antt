@@ -6,3 +6,4 @@ pub mod Turns
 pub mod Laws
 pub mod Same
 pub mod Terms
+pub mod Texts

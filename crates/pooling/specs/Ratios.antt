@@ -7,6 +7,10 @@ pub record Ratio : Type 0 where
   pub part : ℕ
   pub whole : ℕ
 
+-- what memory for elements is filled with: 0 over 1
+abbrev pub none_of_one : Ratio
+none_of_one = record { part = 0; whole = 1 }
+
 -- pooling adds both numbers
 abbrev pub ratio_sum : Ratio → Ratio → Ratio
 ratio_sum x y = record { part = x.part + y.part; whole = x.whole + y.whole }

@@ -12,8 +12,7 @@ pub trait Poolable: Copy {
     // The greatest number of pieces in a list of this kind.
     const MOST: usize;
 
-    // That number, for contracts.
-    ghost most: { ℕ };
+    ghost MOST: { ℕ };
 
     // Whether one value is at most another.
     ghost leq: { Self → Self → Bool };
@@ -22,10 +21,6 @@ pub trait Poolable: Copy {
     ghost joined: { Self → Self → Self };
 
     ghost bulks: { Self → ℕ };
-
-    // The greatest number of pieces, as a call.
-    fn most_pieces() -> usize
-        ensures { result ≡ most };
 
     // Whether the value is at most the other's.
     fn at_most(&self, other: &Self) -> bool
@@ -43,13 +38,14 @@ pub trait Poolable: Copy {
 }
 
 // An element of any kind, in the turned order.
-#[derive(Clone, Copy)]
+// Not `Reverse` of the library, which turns an `Ord`: kinds compare by `at_most`, since an `Ord` needs 1/2 == 2/4, and those pool to different blocks.
+#[derive(Clone, Copy, PartialEq, Eq, Default, Debug)]
 pub struct Turned<K>(pub K);
 
 impl<K: Poolable> Poolable for Turned<K> {
     const MOST: usize = K::MOST;
 
-    ghost most = { K.Poolable.most };
+    ghost MOST = { K.Poolable.MOST };
 
     ghost leq = { turned_leq K.Poolable.leq };
 
@@ -58,10 +54,6 @@ impl<K: Poolable> Poolable for Turned<K> {
     ghost bulks = { turned_bulk K.Poolable.bulks };
 
     ghost lawful = { unturned_laws K.Poolable.lawful };
-
-    fn most_pieces() -> usize {
-        K::most_pieces()
-    }
 
     fn at_most(&self, other: &Turned<K>) -> bool {
         other.0.at_most(&self.0)

@@ -3,6 +3,7 @@
 
 ghost use Rattle.std.specs.Prelude.{◌≤◌};
 
+mod fractions;
 mod kinds;
 mod rate_kind;
 mod rates;
@@ -23,7 +24,6 @@ pub use stacks::Stack;
 #[cfg(test)]
 mod tests {
     use super::*;
-    use std::test::Fail;
     use units::Exposure;
 
     fn piece(failures: u32, exposure: u32) -> Rate
@@ -37,25 +37,26 @@ mod tests {
 
     // Rates are not averaged: 1/4 and 1/12 pool to 2/16.
     #[test]
-    fn rates_pool_by_adding(rt: HostRuntime) -> Result<(), Fail> {
+    fn rates_pool_by_adding(rt: HostRuntime) {
         let pieces = [piece(1, 4), piece(1, 12)];
-        let mut blocks = [Block {
+        let blank = Block {
             first: 9,
             last: 9,
             element: piece(0, 1),
-        }; 3];
-        assert_eq!(rt; pool_rising(&pieces, &mut blocks).ok(), Some(1));
-        assert_eq!(rt; (blocks[0].first, blocks[0].last), (0, 1));
-        assert_eq!(rt; blocks[0].element.failures, 2);
-        assert_eq!(rt; blocks[0].element.exposure.0, 16);
-        assert_eq!(rt; blocks[2].first, 9);
-        match pool_rising(&pieces, &mut blocks[0..1]) {
-            Ok(_) => Err(Fail::new("fitted into one place")),
-            Err(refusal) => {
-                assert_eq!(rt; refusal.number(), 13);
-                Ok(())
-            },
-        }
+        };
+        let mut blocks = [blank; 3];
+        assert_eq!(rt; pool_rising(&pieces, &mut blocks), Ok(1));
+        assert_eq!(rt;
+            blocks[0],
+            Block {
+                first: 0,
+                last: 1,
+                element: piece(2, 16),
+            }
+        );
+        assert_eq!(rt; blocks[2], blank);
+        let refused = pool_rising(&pieces, &mut blocks[0..1]).map_err(|refusal| refusal.number());
+        assert_eq!(rt; refused, Err(13));
     }
 
     // S(2) = 65,536 and S(9) = 207,744, so 2 of 9 scores 2 (65,536 - 207,744).

@@ -1,14 +1,14 @@
 // Rates compare by their exact ratio and pool by adding failures and exposure.
-ghost use Rattle.std.specs.Prelude.{◌≡◌, ◌+◌, ◌≤◌};
+ghost use Rattle.std.specs.Prelude.{◌≡◌, Some};
 ghost use Rattle.std.specs.Option.{option_map};
-ghost use Rattle.isotonic.specs.Laws.{limit};
-ghost use Rattle.pooling.specs.Ratios.{ratio_sum};
-ghost use Rattle.pooling.specs.Kinds.{rate_leq, rate_joined, rate_bulk, rate_ratio, rate_made};
-ghost use Rattle.pooling.specs.Laws.{ratio_laws};
+ghost use Rattle.pooling.specs.Ratios.{none_of_one};
+ghost use Rattle.pooling.specs.Texts.{ratio_text};
+ghost use Rattle.pooling.specs.Kinds.{rate_part, rate_whole, rate_bulk, rate_sum, rate_ratio, rate_made};
 ghost use Rattle.pooling.specs.Same.{rates_add};
 
-use super::kinds::{BULK_LIMIT, Poolable};
+use super::fractions::Fraction;
 use super::rates::Rate;
+use std::fmt;
 use units::Exposure;
 
 impl Rate {
@@ -22,12 +22,48 @@ impl Rate {
             Some(Rate { failures, exposure })
         }
     }
+}
 
-    // Both numbers added.
-    fn plus(self, other: Rate) -> Rate
-        requires within { rate_bulk self + rate_bulk other ≤ limit }
-        ensures { rate_ratio result ≡ ratio_sum (rate_ratio self) (rate_ratio other) }
-    {
+// 0 over one unit-tick.
+impl Default for Rate {
+    ghost is_default = { λ rate. rate_ratio rate ≡ none_of_one };
+
+    fn default() -> Rate {
+        Rate {
+            failures: 0,
+            exposure: Exposure(1),
+        }
+    }
+}
+
+impl Fraction for Rate {
+    const MOST: usize = 1024;
+
+    ghost MOST = { 1024 };
+
+    ghost parts = { rate_part };
+
+    ghost wholes = { rate_whole };
+
+    ghost weights = { rate_bulk };
+
+    ghost sums = { rate_sum };
+
+    ghost adds = { rates_add };
+
+    fn part(&self) -> u32 {
+        self.failures
+    }
+
+    fn whole(&self) -> u32 {
+        self.exposure.0
+    }
+
+    fn weight(&self) -> u64 {
+        self.failures as u64 + self.exposure.0 as u64
+    }
+
+    fn plus(self, other: Rate) -> Rate {
         Rate {
             failures: self.failures + other.failures,
             exposure: Exposure(self.exposure.0 + other.exposure.0),
@@ -35,37 +71,10 @@ impl Rate {
     }
 }
 
-impl Poolable for Rate {
-    const MOST: usize = 1024;
+impl fmt::Display for Rate {
+    ghost output = { λ rate. Some (ratio_text (rate_ratio rate)) };
 
-    ghost most = { 1024 };
-
-    ghost leq = { rate_leq };
-
-    ghost joined = { rate_joined };
-
-    ghost bulks = { rate_bulk };
-
-    ghost lawful = { ratio_laws rates_add };
-
-    fn most_pieces() -> usize {
-        Self::MOST
-    }
-
-    fn at_most(&self, other: &Rate) -> bool {
-        self.failures as u64 * other.exposure.0 as u64
-            <= other.failures as u64 * self.exposure.0 as u64
-    }
-
-    fn pool(self, other: Rate) -> Rate {
-        if self.bulk() + other.bulk() <= BULK_LIMIT {
-            self.plus(other)
-        } else {
-            self
-        }
-    }
-
-    fn bulk(&self) -> u64 {
-        self.failures as u64 + self.exposure.0 as u64
+    fn fmt<W: fmt::Write>(&self, f: &mut fmt::Formatter<W>) -> fmt::Result {
+        write!(f, "{}/{}", self.failures, self.exposure.0)
     }
 }

@@ -1,14 +1,14 @@
 // Shares compare by their exact ratio and pool by adding successes and trials.
-ghost use Rattle.std.specs.Prelude.{◌≡◌, ◌+◌, ◌≤◌};
+ghost use Rattle.std.specs.Prelude.{◌≡◌, Some};
 ghost use Rattle.std.specs.Option.{option_map};
-ghost use Rattle.isotonic.specs.Laws.{limit};
-ghost use Rattle.pooling.specs.Ratios.{ratio_sum};
-ghost use Rattle.pooling.specs.Kinds.{share_leq, share_joined, share_bulk, share_ratio, share_made};
-ghost use Rattle.pooling.specs.Laws.{ratio_laws};
+ghost use Rattle.pooling.specs.Ratios.{none_of_one};
+ghost use Rattle.pooling.specs.Texts.{ratio_text};
+ghost use Rattle.pooling.specs.Kinds.{share_part, share_whole, share_bulk, share_sum, share_ratio, share_made};
 ghost use Rattle.pooling.specs.Same.{shares_add};
 
-use super::kinds::{BULK_LIMIT, Poolable};
+use super::fractions::Fraction;
 use super::shares::Share;
+use std::fmt;
 
 impl Share {
     // The share of these successes among these trials; none without a trial, or where the successes pass the trials.
@@ -21,12 +21,48 @@ impl Share {
             Some(Share { successes, trials })
         }
     }
+}
 
-    // Both numbers added.
-    fn plus(self, other: Share) -> Share
-        requires within { share_bulk self + share_bulk other ≤ limit }
-        ensures { share_ratio result ≡ ratio_sum (share_ratio self) (share_ratio other) }
-    {
+// 0 of 1.
+impl Default for Share {
+    ghost is_default = { λ share. share_ratio share ≡ none_of_one };
+
+    fn default() -> Share {
+        Share {
+            successes: 0,
+            trials: 1,
+        }
+    }
+}
+
+impl Fraction for Share {
+    const MOST: usize = 64;
+
+    ghost MOST = { 64 };
+
+    ghost parts = { share_part };
+
+    ghost wholes = { share_whole };
+
+    ghost weights = { share_bulk };
+
+    ghost sums = { share_sum };
+
+    ghost adds = { shares_add };
+
+    fn part(&self) -> u32 {
+        self.successes
+    }
+
+    fn whole(&self) -> u32 {
+        self.trials
+    }
+
+    fn weight(&self) -> u64 {
+        self.trials as u64
+    }
+
+    fn plus(self, other: Share) -> Share {
         Share {
             successes: self.successes + other.successes,
             trials: self.trials + other.trials,
@@ -34,36 +70,10 @@ impl Share {
     }
 }
 
-impl Poolable for Share {
-    const MOST: usize = 64;
+impl fmt::Display for Share {
+    ghost output = { λ share. Some (ratio_text (share_ratio share)) };
 
-    ghost most = { 64 };
-
-    ghost leq = { share_leq };
-
-    ghost joined = { share_joined };
-
-    ghost bulks = { share_bulk };
-
-    ghost lawful = { ratio_laws shares_add };
-
-    fn most_pieces() -> usize {
-        Self::MOST
-    }
-
-    fn at_most(&self, other: &Share) -> bool {
-        self.successes as u64 * other.trials as u64 <= other.successes as u64 * self.trials as u64
-    }
-
-    fn pool(self, other: Share) -> Share {
-        if self.bulk() + other.bulk() <= BULK_LIMIT {
-            self.plus(other)
-        } else {
-            self
-        }
-    }
-
-    fn bulk(&self) -> u64 {
-        self.trials as u64
+    fn fmt<W: fmt::Write>(&self, f: &mut fmt::Formatter<W>) -> fmt::Result {
+        write!(f, "{}/{}", self.successes, self.trials)
     }
 }
