@@ -1,23 +1,19 @@
 -- Growth: the rising fit of shares over the rows with trials.
-use Rattle.std.specs.Prelude.{ℕ, suc, cond, ltb, List, [], ◌∷◌, ◌++◌, map, length, drop, Some, None, filter, Option, Result, ◌==◌, nat_lt, slice_index}
+use Rattle.std.specs.Prelude.{ℕ, cond, ltb, List, map, length, Some, None, filter, Option, Result, ◌==◌, nat_lt, slice_index}
+use Rattle.std.specs.List.{enumerate_from}
 use Rattle.units.specs.Refusals.{Refused, refused}
 use Rattle.isotonic.specs.declared.blocks.Block.{Block}
 use Rattle.isotonic.specs.MaxMin.{rising_blocks}
 use Rattle.pooling.specs.Ratios.{Ratio}
 use Rattle.pooling.specs.Kinds.{trials_leq, trials_joined}
-use Rattle.pooling.specs.Pooling.{answered, unless_refused}
+use Rattle.pooling.specs.Pooling.{answered, unless_refused, written}
 use Rattle.pooling.specs.Scores.{trials_score, blocks_score}
 use Rattle.releases.specs.declared.steps.Growth.{Growth}
 use Rattle.releases.specs.declared.steps.GrowthStep.{GrowthStep}
 
--- elements with their numbers, from i on
-abbrev pub numbered : {X : Type 0} → ℕ → List X → List (ℕ × X)
-numbered i [] = []
-numbered i (x ∷ xs) = (i, x) ∷ numbered (suc i) xs
-
 -- the rows with trials, each with the number of its release
 abbrev pub tried : List Ratio → List (ℕ × Ratio)
-tried rows = filter (λ p. ltb 0 p.1.whole) (numbered 1 rows)
+tried rows = filter (λ p. ltb 0 p.1.whole) (enumerate_from 1 rows)
 
 -- the pieces of the fit, and the release of each
 abbrev pub tried_shares : List Ratio → List Ratio
@@ -39,24 +35,20 @@ growth_step releases b = record {
   trials = b.element.whole;
 }
 
--- 12 without a piece
-abbrev pub no_piece : ℕ → Option Refused
-no_piece n = cond (n == 0) (Some (refused 12)) None
+-- n pieces, and room for so many steps: 12 without a piece, 13 with less room than pieces
+abbrev pub pieces_refusal : ℕ → ℕ → Option Refused
+pieces_refusal n room = cond (n == 0) (Some (refused 12)) (cond (nat_lt room n) (Some (refused 13)) None)
 
 -- the number of blocks, and the sum of their scores
 abbrev pub share_growth : List Ratio → Growth
 share_growth pieces = record { steps = length (share_blocks pieces); score = blocks_score trials_score (share_blocks pieces) }
-
--- memory with steps written from its start; past them it stays
-abbrev pub written : {X : Type 0} → List X → List X → List X
-written steps before = steps ++ drop (length steps) before
 
 abbrev pub growth_steps : List Ratio → List GrowthStep
 growth_steps rows = map (growth_step (tried_releases rows)) (share_blocks (tried_shares rows))
 
 -- 12 without a trial, 13 where the step memory is shorter than the rows with trials
 abbrev pub growth_refusal : List Ratio → ℕ → Option Refused
-growth_refusal rows room = cond (length (tried rows) == 0) (Some (refused 12)) (cond (nat_lt room (length (tried rows))) (Some (refused 13)) None)
+growth_refusal rows room = pieces_refusal (length (tried rows)) room
 
 abbrev pub growth_answer : List Ratio → ℕ → Result Growth Refused
 growth_answer rows room = answered (growth_refusal rows room) (share_growth (tried_shares rows))

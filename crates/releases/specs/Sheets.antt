@@ -1,5 +1,5 @@
 -- The release sheet: a row of plain numbers for each release, and what a note does.
-use Rattle.std.specs.Prelude.{ℕ, ◌+◌, ◌-◌, cond, ◌||◌, List, map, replicate, Some, None, Option, ◌==◌, nat_lt, slice_index_or, slice_set}
+use Rattle.std.specs.Prelude.{ℕ, ◌+◌, ◌-◌, cond, ltb, ◌||◌, List, map, replicate, Some, None, Option, ◌==◌, nat_lt, slice_index_or, slice_set}
 use Rattle.units.specs.Refusals.{Refused, refused}
 use Rattle.pooling.specs.Ratios.{Ratio}
 use Rattle.pooling.specs.Pooling.{unless_refused}
@@ -26,6 +26,10 @@ row_of rows release = slice_index_or rows (release - 1) no_trials
 
 abbrev pub row_noted : Ratio → ℕ → ℕ → Ratio
 row_noted row successes trials = record { part = row.part + successes; whole = row.whole + trials }
+
+-- the share of a row with trials
+abbrev pub row_share : Ratio → Option Ratio
+row_share row = cond (ltb 0 row.whole) (Some row) None
 
 -- 16 where the successes pass the trials, or the row would pass its most trials
 abbrev pub row_refusal : Ratio → ℕ → ℕ → Option Refused

@@ -1,41 +1,17 @@
 // The release sheet.
 ghost use Rattle.std.specs.Prelude.{◌≡◌};
-ghost use Rattle.units.specs.Refusals.{answer, seen};
+ghost use Rattle.units.specs.Refusals.{answer};
 ghost use Rattle.pooling.specs.Pooling.{answered};
-ghost use Rattle.releases.specs.Sheets.{row_ratio, no_trials, row_refusal, row_noted, sheet_rows, note_refusal, noted_rows, empty_rows};
+ghost use Rattle.releases.specs.Sheets.{sheet_rows, note_refusal, noted_rows, empty_rows};
 
-use super::rows::{MOST_TRIALS, Row};
+use super::rows::Row;
 use units::Refusal;
 
 // Releases are numbered from 1 to this.
 pub const ROWS: usize = 64;
 
-impl Row {
-    fn empty() -> Row
-        ensures { row_ratio result ≡ no_trials }
-    {
-        Row {
-            successes: 0,
-            trials: 0,
-        }
-    }
-
-    // The row with a note added; refused where the successes pass the trials, or the row would pass its most trials.
-    fn noted(self, successes: u32, trials: u32) -> Result<Row, Refusal>
-        ensures { seen row_ratio result ≡ answered (row_refusal (row_ratio self) successes trials) (row_noted (row_ratio self) successes trials) }
-    {
-        if successes > trials || trials > MOST_TRIALS - self.trials {
-            return Err(Refusal::BadNote);
-        }
-        Ok(Row {
-            successes: self.successes + successes,
-            trials: self.trials + trials,
-        })
-    }
-}
-
 // The trials of each release, row by row.
-#[derive(Clone, Copy)]
+#[derive(Clone, Copy, PartialEq, Eq, Debug)]
 pub struct ReleaseSheet {
     pub(crate) rows: [Row; ROWS],
 }
@@ -46,7 +22,7 @@ impl ReleaseSheet {
         ensures { sheet_rows result ≡ empty_rows }
     {
         ReleaseSheet {
-            rows: [Row::empty(); ROWS],
+            rows: [Row::default(); ROWS],
         }
     }
 
