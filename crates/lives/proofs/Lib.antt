@@ -1,9 +1,7 @@
 mod Places
-mod Kept
 mod Turned
 mod Written
-mod Reading
+mod OneByOne
 mod Decoded
 mod RoundTrip
 mod Loaded
-mod TakenOver

@@ -1,20 +1,19 @@
 -- What is written reads back, and nothing else is read.
-use Rattle.std.proofs.Common.{◌≡◌, ℕ, zero, suc, ◌+◌, ◌-◌, ◌*◌, ◌%◌, ◌^◌, ◌<◌, ◌≤◌, Bool, true, false, leb, List, [], ◌∷◌, ◌++◌, map, length, get_or, take, drop, IfOk, Ok, Err, Result, sym, refl, ap, ◌∙◌, append_assoc, add-zero, arith, length-append}
+use Rattle.std.proofs.Common.{◌≡◌, ℕ, zero, suc, ◌+◌, ◌-◌, ◌*◌, ◌^◌, ◌<◌, ◌≤◌, leb, List, [], ◌∷◌, ◌++◌, map, length, get_or, take, drop, IfOk, Ok, Err, Result, sym, refl, ap, ◌∙◌, append_assoc, add-zero, arith, length-append}
+use Rattle.std.proofs.lemmas.Grind.{common_steps}
 use Rattle.std.specs.List.{flat_map}
 use Rattle.std.proofs.lemmas.List.{length-map, take_at, get_or_at, get_or-drop, drop-drop, drop_more, drop_all}
-use Rattle.std.proofs.lemmas.Bool.{le-leb, lt-ltb, ltb-true, eqb-true, eq-eqb, and_from, and_parts, cond-true}
-use Rattle.units.specs.Hours.{last_tick}
-use Rattle.units.specs.Refusals.{Refused, refused, answer}
+use Rattle.std.proofs.lemmas.Bool.{eqb-true, cond-true}
+use Rattle.units.specs.Refusals.{refused, answer}
 use Rattle.units.specs.declared.refusals.Refusal.{Refusal}
 use Rattle.lives.specs.declared.types.Place.{Place}
-use Rattle.lives.specs.declared.types.Status.{Status}
-use Rattle.lives.specs.declared.types.Status.TheVariants.{Failed, Withdrawn, Running}
 use Rattle.lives.specs.Archive.{word_of, kind_of, payload_of, check_of, status_mark, place_words, body, archive_of, archive_length, write_answer, write_after}
-use Rattle.lives.specs.Decode.{serial_word, entry_word, exit_word, status_mark_word, place_from, places_from, join_place, counted, check_right, checked, decode}
-use Rattle.lives.specs.Lives.{PlainPlace, plain, status_of}
+use Rattle.lives.specs.Decode.{place_from, places_from, join_place, counted, check_right, checked, decode}
+use Rattle.lives.specs.Lives.{PlainPlace, plain}
 use Rattle.lives.specs.Studies.{most_places}
 use Rattle.lives.specs.RoundTrip.{ReadsBack, OnlyWritten}
-use Rattle.lives.proofs.Decoded.{cond_ok, framed, frame_is, decoded, decoded_frame, checked_ok, join_ok, length_read}
+use Rattle.lives.proofs.Decoded.{cond_ok, ok_is, framed, frame_is, decoded, decoded_frame, checked_ok, join_ok}
+use Rattle.lives.proofs.OneByOne.{length_read}
 use Rattle.lives.proofs.Written.{length_words}
 
 -- ---- a word has its kind and its payload
@@ -28,54 +27,8 @@ pub word_back : (k w : ℕ) → kind_of w ≡ k → word_of k (payload_of w) ≡
 word_back k w h = omega arith
 
 -- ---- one life, forth
-mark_small : (s : Status) (b : Bool) → status_mark s b < 7
-mark_small Failed true = omega arith
-mark_small Failed false = omega arith
-mark_small Withdrawn true = omega arith
-mark_small Withdrawn false = omega arith
-mark_small Running true = omega arith
-mark_small Running false = omega arith
-
-mark_ok : (s : Status) (b : Bool) → status_mark_word (word_of 6 (status_mark s b)) ≡ true
-mark_ok Failed true = refl
-mark_ok Failed false = refl
-mark_ok Withdrawn true = refl
-mark_ok Withdrawn false = refl
-mark_ok Running true = refl
-mark_ok Running false = refl
-
-mark_status : (s : Status) (b : Bool) → status_of (payload_of (word_of 6 (status_mark s b)) % 4) ≡ s
-mark_status Failed true = refl
-mark_status Failed false = refl
-mark_status Withdrawn true = refl
-mark_status Withdrawn false = refl
-mark_status Running true = refl
-mark_status Running false = refl
-
-mark_struck : (s : Status) (b : Bool) → leb 4 (payload_of (word_of 6 (status_mark s b))) ≡ b
-mark_struck Failed true = refl
-mark_struck Failed false = refl
-mark_struck Withdrawn true = refl
-mark_struck Withdrawn false = refl
-mark_struck Running true = refl
-mark_struck Running false = refl
-
 pub place_forth : (p : Place) → place_from (word_of 3 p.life.serial) (word_of 4 p.life.entry.0) (word_of 5 p.life.exit.0) (word_of 6 (status_mark p.life.status p.struck)) ≡ Ok (plain p)
-place_forth p =
-    let o = p.life.ok in
-    let a = word_of 3 p.life.serial in
-    let b = word_of 4 p.life.entry.0 in
-    let x = word_of 5 p.life.exit.0 in
-    let k = word_of 6 (status_mark p.life.status p.struck) in
-    let pa : payload_of a ≡ p.life.serial = payload_is 3 p.life.serial (omega arith) in
-    let pb : payload_of b ≡ p.life.entry.0 = payload_is 4 p.life.entry.0 (omega arith) in
-    let px : payload_of x ≡ p.life.exit.0 = payload_is 5 p.life.exit.0 (omega arith) in
-    let ks = mark_status p.life.status p.struck in
-    let kb = mark_struck p.life.status p.struck in
-    let ta : serial_word a ≡ true = and_from _ _ (eq-eqb (kind_of a) 3 (kind_is 3 p.life.serial (omega arith))) (lt-ltb 0 (payload_of a) (omega arith)) in
-    let tb : entry_word b ≡ true = and_from _ _ (eq-eqb (kind_of b) 4 (kind_is 4 p.life.entry.0 (omega arith))) (lt-ltb (payload_of b) last_tick (omega arith)) in
-    let tx : exit_word b x ≡ true = and_from _ _ (and_from _ _ (eq-eqb (kind_of x) 5 (kind_is 5 p.life.exit.0 (omega arith))) (lt-ltb (payload_of b) (payload_of x) (omega arith))) (le-leb (payload_of x) last_tick (omega arith)) in
-    cond-true (serial_word a) _ _ ta ∙ cond-true (entry_word b) _ _ tb ∙ cond-true (exit_word b x) _ _ tx ∙ cond-true (status_mark_word k) _ _ (mark_ok p.life.status p.struck) ∙ cc
+place_forth p = grind (arith, common_steps)
 
 -- ---- all lives, forth
 pub places_forth : (ps : List Place) (i : ℕ) (ws post : List ℕ) → drop i ws ≡ flat_map place_words (map plain ps) ++ post → places_from (length ps) i ws ≡ Ok (map plain ps)
@@ -111,51 +64,16 @@ reads_back ps h =
     decoded ws (Ok (length ps)) frame ∙ ap (checked ws) (places_forth ps 2 ws (v ∷ []) refl) ∙ checked_ok ws ls check
 
 -- ---- one life, back
-mark_back : (p : ℕ) → p < 8 → p % 4 < 3 → status_mark (status_of (p % 4)) (leb 4 p) ≡ p
-mark_back zero h g = refl
-mark_back (suc zero) h g = refl
-mark_back (suc (suc zero)) h g = refl
-mark_back (suc (suc (suc zero))) h g = absurd (omega arith)
-mark_back (suc (suc (suc (suc zero)))) h g = refl
-mark_back (suc (suc (suc (suc (suc zero))))) h g = refl
-mark_back (suc (suc (suc (suc (suc (suc zero)))))) h g = refl
-mark_back (suc (suc (suc (suc (suc (suc (suc zero))))))) h g = absurd (omega arith)
-mark_back (suc (suc (suc (suc (suc (suc (suc (suc p)))))))) h g = absurd (omega arith)
-
 pub place_back : (a b x k : ℕ) (l : PlainPlace) → place_from a b x k ≡ Ok l → a ∷ b ∷ x ∷ k ∷ [] ≡ place_words l
-place_back a b x k l e =
-    let ea = cond_ok (serial_word a) _ 0 l e in
-    let eb = cond_ok (entry_word b) _ 1 l ea.1 in
-    let ex = cond_ok (exit_word b x) _ 2 l eb.1 in
-    let ek = cond_ok (status_mark_word k) _ 3 l ex.1 in
-    let wa = word_back 3 a (eqb-true _ _ (and_parts _ _ ea.0).0) in
-    let wb = word_back 4 b (eqb-true _ _ (and_parts _ _ eb.0).0) in
-    let wx = word_back 5 x (eqb-true _ _ (and_parts _ _ (and_parts _ _ ex.0).0).0) in
-    let mk = and_parts _ _ ek.0 in
-    let mk' = and_parts _ _ mk.0 in
-    let wk = word_back 6 k (eqb-true _ _ mk'.0) in
-    let mb = mark_back (payload_of k) (ltb-true _ _ mk'.1) (ltb-true _ _ mk.1) in
-    let words : a ∷ b ∷ x ∷ k ∷ [] ≡ word_of 3 (payload_of a) ∷ word_of 4 (payload_of b) ∷ word_of 5 (payload_of x) ∷ word_of 6 (status_mark (status_of (payload_of k % 4)) (leb 4 (payload_of k))) ∷ [] = cc in
-    words ∙ ap place_words (ok_is _ l ek.1)
-  where
-    ok_is : (l m : PlainPlace) → ◌≡◌ {A = Result PlainPlace ℕ} (Ok l) (Ok m) → l ≡ m
-    ok_is l m e = cc
+place_back a b x k l e = grind (arith, common_steps)
 
 -- ---- all lives, back
 drop_four : (ws : List ℕ) (i : ℕ) → i + 4 ≤ length ws → drop i ws ≡ get_or ws i 0 ∷ get_or ws (i + 1) 0 ∷ get_or ws (i + 2) 0 ∷ get_or ws (i + 3) 0 ∷ drop (i + 4) ws
-drop_four ws i h =
-    let a = drop_more ws i 0 (omega arith) in
-    let b = drop_more ws (i + 1) 0 (omega arith) in
-    let x = drop_more ws (i + 2) 0 (omega arith) in
-    let k = drop_more ws (i + 3) 0 (omega arith) in
-    let e1 : i + 1 + 1 ≡ i + 2 = omega arith in
-    let e2 : i + 2 + 1 ≡ i + 3 = omega arith in
-    let e3 : i + 3 + 1 ≡ i + 4 = omega arith in
-    cc
+drop_four ws i h = grind (arith, common_steps)
 
 pub places_back : (m i : ℕ) (ws : List ℕ) (ls : List PlainPlace) → i + 4 * m ≤ length ws → places_from m i ws ≡ Ok ls → drop i ws ≡ flat_map place_words ls ++ drop (i + 4 * m) ws
 places_back zero i ws [] h e = ap (λ (z : ℕ). drop z ws) (omega arith)
-places_back zero i ws (l ∷ ls) h e = absurd (let z : ◌≡◌ {A = ℕ} 0 1 = cc in omega arith)
+places_back zero i ws (l ∷ ls) h e = absurd (cc)
 places_back (suc m) i ws ls h e =
     let j = join_ok i (place_from (get_or ws i 0) (get_or ws (i + 1) 0) (get_or ws (i + 2) 0) (get_or ws (i + 3) 0)) (places_from m (i + 4) ws) ls e in
     let one = place_back (get_or ws i 0) (get_or ws (i + 1) 0) (get_or ws (i + 2) 0) (get_or ws (i + 3) 0) j.0 j.2 in
@@ -169,13 +87,10 @@ places_back (suc m) i ws ls h e =
 
 -- ---- the whole, back
 checked_back : (ws : List ℕ) (r : Result (List PlainPlace) ℕ) (ls : List PlainPlace) → checked ws r ≡ Ok ls → (r ≡ Ok ls) × (check_of (take (length ws - 1) ws) ≡ get_or ws (length ws - 1) 0)
-checked_back ws (Err p) ls e = absurd (let z : ◌≡◌ {A = ℕ} 0 1 = cc in omega arith)
+checked_back ws (Err p) ls e = absurd (cc)
 checked_back ws (Ok ms) ls e =
     let c = cond_ok (check_right ws) (Ok ms) _ ls e in
-    (ap Ok (ok_places ms ls c.1), eqb-true _ _ c.0)
-  where
-    ok_places : (l m : List PlainPlace) → ◌≡◌ {A = Result (List PlainPlace) Refused} (Ok l) (Ok m) → l ≡ m
-    ok_places l m e = cc
+    (ap Ok (ok_is ms ls c.1), eqb-true _ _ c.0)
 
 two_heads : (ws : List ℕ) → 2 ≤ length ws → ws ≡ get_or ws 0 0 ∷ get_or ws 1 0 ∷ drop 2 ws
 two_heads [] h = absurd (omega arith)
@@ -213,6 +128,3 @@ written_read ps (Ok n) old new h a w =
     ap (λ x. decode (take n x)) whole
     ∙ ap decode (take_at (archive_of qs) (drop (archive_length qs) old) n (length_archive qs ∙ size))
     ∙ reads_back ps h
-  where
-    ok_is : (x y : ℕ) → ◌≡◌ {A = Result ℕ Refused} (Ok x) (Ok y) → x ≡ y
-    ok_is x y e = cc

@@ -1,9 +1,9 @@
 -- What the words hold while an archive is written.
-use Rattle.std.proofs.Common.{◌≡◌, ℕ, ◌+◌, ◌-◌, ◌*◌, ◌<◌, ◌≤◌, true, false, leb, List, [], ◌∷◌, ◌++◌, map, length, get_or, take, drop, set, sym, refl, ap, ◌∙◌, append_assoc, arith}
-use Rattle.std.proofs.lemmas.Bool.{le-leb, lt-leb}
+use Rattle.std.proofs.Common.{◌≡◌, ℕ, ◌+◌, ◌-◌, ◌*◌, ◌<◌, true, leb, List, [], ◌∷◌, ◌++◌, map, length, get_or, take, drop, set, sym, refl, ap, ◌∙◌, append_assoc, arith}
+use Rattle.std.proofs.lemmas.Grind.{common_steps}
 use borrow.Rule.Slice.PartMut.{put_mid}
 use Rattle.std.specs.List.{flat_map}
-use Rattle.std.proofs.lemmas.List.{length-map, length-set, length-take-le, take_at, drop_at, drop-drop, drop_more, drop-set-lt, set_at, flat_map_more, map_more, take_all}
+use Rattle.std.proofs.lemmas.List.{length-map, length-set, length-take-le, take_at, drop_at, drop-drop, drop_more, drop-set-lt, set_at, take_all}
 use Rattle.lives.specs.declared.types.Place.{Place}
 use Rattle.lives.specs.Archive.{word_of, check_of, place_words, archive_of, archive_length}
 use Rattle.lives.specs.Lives.{PlainPlace, plain}
@@ -18,16 +18,8 @@ length_words (l ∷ ls) = let h = length_words ls in omega arith
 pub length_front : (m : ℕ) (ps : List Place) → length (front m ps) ≡ 2 + 4 * length ps
 length_front m ps = omega (arith, length_words (map plain ps), length-map ps plain)
 
-pub begun : (W : List ℕ) (a b : ℕ) → 2 ≤ length W → set (set W 0 a) 1 b ≡ a ∷ b ∷ drop 2 (set (set W 0 a) 1 b)
-begun [] a b h = absurd (omega arith)
-begun (x ∷ []) a b h = absurd (omega arith)
-begun (x ∷ y ∷ W) a b h = refl
-
 front_more : (m : ℕ) (P : List Place) (i : ℕ) (x : Place) → i < length P → x ≡ get_or P i x → front m (take (i + 1) P) ≡ front m (take i P) ++ place_words (plain x)
-front_more m P i x h e =
-    let bs : List ℕ = word_of 1 1 ∷ word_of 2 m ∷ [] in
-    ap (λ (ls : List PlainPlace). bs ++ flat_map place_words ls) (map_more plain P i x h ∙ ap (λ (y : Place). map plain (take i P) ++ plain y ∷ []) (sym e))
-    ∙ sym (flat_map_more place_words bs (map plain (take i P)) (plain x))
+front_more m P i x h e = grind (arith, common_steps)
 
 pub grown : (E W r : List ℕ) (m : ℕ) (P : List Place) (i : ℕ) (x : Place) → i < length P → x ≡ get_or P i x → r ≡ place_words (plain x)
     → W ≡ front m (take i P) ++ drop (2 + 4 * i) E
@@ -82,7 +74,4 @@ finished W0 W a b P i v h q w c =
 
 -- ---- whether the words suffice
 pub room_enough : (P : List Place) (ws : List ℕ) → 2 + 4 * length P < length ws → leb (archive_length (map plain P)) (length ws) ≡ true
-room_enough P ws h = le-leb (archive_length (map plain P)) (length ws) (omega (arith, length-map P plain))
-
-pub too_short : (P : List Place) (ws : List ℕ) → length ws ≤ 2 + 4 * length P → leb (archive_length (map plain P)) (length ws) ≡ false
-too_short P ws h = lt-leb (archive_length (map plain P)) (length ws) (omega (arith, length-map P plain))
+room_enough P ws h = grind (arith, common_steps)

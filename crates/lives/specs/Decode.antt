@@ -1,11 +1,13 @@
 -- What an archive's words say, or where they are first damaged; and what loading them answers and leaves.
 use Rattle.std.specs.Prelude.{◌≡◌, ℕ, zero, suc, ◌+◌, ◌-◌, ◌*◌, ◌%◌, ◌≤◌, Bool, cond, ◌&&◌, List, [], ◌∷◌, length, take, drop, Some, None, Ok, Err, Option, Result, ◌==◌, nat_le, nat_lt, slice_index}
 use Rattle.units.specs.declared.refusals.Layer.TheVariants.{Frame, Life as InLife}
-use Rattle.units.specs.declared.refusals.Refusal.{Refusal}
+use Rattle.std.specs.Simd.{first_chunks}
 use Rattle.units.specs.Hours.{last_tick}
-use Rattle.units.specs.Refusals.{Refused, refused, refused_at, told}
+use Rattle.units.specs.Refusals.{Refused, refused, refused_at}
+use Rattle.lives.specs.declared.reading.LifeWord.{LifeWord}
 use Rattle.lives.specs.declared.types.Place.{Place}
 use Rattle.lives.specs.Archive.{word_of, kind_of, payload_of, check_of}
+use Rattle.lives.specs.Words.{place_within}
 use Rattle.lives.specs.Lives.{PlainPlace, plain, status_of}
 use Rattle.lives.specs.Studies.{Held, room, most_places}
 
@@ -20,8 +22,11 @@ abbrev pub entry_word : ℕ → Bool
 entry_word b = kind_of b == 4 && nat_lt (payload_of b) last_tick
 
 -- the exit age is above the entry age, and not too high
+abbrev pub exit_above : ℕ → ℕ → Bool
+exit_above t x = kind_of x == 5 && nat_lt t (payload_of x) && nat_le (payload_of x) last_tick
+
 abbrev pub exit_word : ℕ → ℕ → Bool
-exit_word b x = kind_of x == 5 && nat_lt (payload_of b) (payload_of x) && nat_le (payload_of x) last_tick
+exit_word b x = exit_above (payload_of b) x
 
 -- the status is 0, 1 or 2, or one of these plus 4
 abbrev pub status_mark_word : ℕ → Bool
@@ -43,10 +48,14 @@ place_from a b x k =
     (Err 1))
     (Err 0)
 
--- the same of the code's own place
-abbrev pub viewed : Result Place ℕ → Result PlainPlace ℕ
+-- the same of four words in a row
+abbrev pub place_in : List ℕ → Result PlainPlace ℕ
+place_in ws = place_from (slice_index ws 0) (slice_index ws 1) (slice_index ws 2) (slice_index ws 3)
+
+-- the same of the code's own place and word
+abbrev pub viewed : Result Place LifeWord → Result PlainPlace ℕ
 viewed (Ok p) = Ok (plain p)
-viewed (Err e) = Err e
+viewed (Err e) = Err (place_within e)
 
 -- ---- the lives
 
@@ -60,6 +69,11 @@ join_place i (Ok p) (Ok ps) = Ok (p ∷ ps)
 abbrev pub places_from : ℕ → ℕ → List ℕ → Result (List PlainPlace) ℕ
 places_from zero i ws = Ok []
 places_from (suc m) i ws = join_place i (place_from (slice_index ws i) (slice_index ws (i + 1)) (slice_index ws (i + 2)) (slice_index ws (i + 3))) (places_from m (i + 4) ws)
+
+-- places of four words each, the first of them at word i
+abbrev pub places_in : ℕ → List (List ℕ) → Result (List PlainPlace) ℕ
+places_in i [] = Ok []
+places_in i (w ∷ ws) = join_place i (place_in w) (places_in (i + 4) ws)
 
 abbrev pub error_of : {A : Type 0} → Result A ℕ → Option ℕ
 error_of (Ok x) = None
@@ -121,8 +135,11 @@ room_after h (Ok ps) = cond (nat_le (length ps) (room h)) (record { places = ps;
 abbrev pub load_after : Held → List ℕ → Held
 load_after h ws = cond (length h.places == 0) (room_after h (decode ws)) h
 
--- what the check of all words finds: how many lives, or what `decode` refuses by
-abbrev pub Checked : List ℕ → Result ℕ Refusal → Type 0
-Checked ws (Ok n) =
-    (length ws ≡ 3 + 4 * n) × (n ≤ most_places) × ((ps : List PlainPlace) × (places_from n 2 ws ≡ Ok ps) × (decode ws ≡ Ok ps))
-Checked ws (Err e) = decode ws ≡ Err (told e)
+-- what the check of all words finds: the four words of each life
+abbrev pub Checked : List ℕ → List (List ℕ) → Type 0
+Checked ws lives =
+    (length lives ≤ most_places) × ((ps : List PlainPlace) × (places_in 2 lives ≡ Ok ps) × (decode ws ≡ Ok ps))
+
+-- what the check of the frame finds: as many lives as it names, of four words each
+abbrev pub FramedLives : List ℕ → List (List ℕ) → Type 0
+FramedLives ws lives = (frame_of ws ≡ Ok (length lives)) × (lives ≡ first_chunks 4 (length lives) (drop 2 ws))

@@ -1,7 +1,7 @@
 pub mod Lives
 pub mod Studies
-pub mod Memory
 pub mod Sheets
 pub mod Archive
+pub mod Words
 pub mod Decode
 pub mod RoundTrip

@@ -1,5 +1,6 @@
 -- Lives and places as plain values: a `Life` also carries the proof of its bounds.
 use Rattle.std.specs.Prelude.{ℕ, Bool, true, false, cond, ◌&&◌, Ok, Err, Result, ◌==◌, nat_le, nat_lt}
+use Rattle.units.specs.declared.ages.Age.{Age}
 use Rattle.units.specs.Hours.{last_tick}
 use Rattle.units.specs.Refusals.{Refused, refused}
 use Rattle.lives.specs.declared.types.Life.{Life}
@@ -18,6 +19,9 @@ pub record PlainLife : Type 0 where
 pub record PlainPlace : Type 0 where
   pub life : PlainLife
   pub struck : Bool
+
+abbrev pub age_of : ℕ → Age
+age_of t = record { 0 = t }
 
 abbrev pub plain_life : Life → PlainLife
 plain_life l = record { serial = l.serial; entry = l.entry.0; exit = l.exit.0; status = l.status }
@@ -38,6 +42,10 @@ status_code Running = 2
 -- the status that a number says, where it is 0, 1 or 2
 abbrev pub status_of : ℕ → Status
 status_of n = cond (n == 0) Failed (cond (n == 1) Withdrawn Running)
+
+-- the status that a number says, or refusal 1
+abbrev pub status_coded : ℕ → Result Status Refused
+status_coded n = cond (nat_le n 2) (Ok (status_of n)) (Err (refused 1))
 
 -- the status is one of the three
 abbrev pub status_ok : UncheckedLife → Bool

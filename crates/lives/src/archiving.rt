@@ -4,14 +4,11 @@ ghost use Rattle.units.specs.Refusals.{answer};
 ghost use Rattle.lives.specs.Archive.{place_words, status_mark, write_after, write_answer};
 ghost use Rattle.lives.specs.Decode.{decode};
 ghost use Rattle.lives.specs.Lives.{plain};
-ghost use Rattle.lives.specs.Studies.{sealed};
+ghost use Rattle.lives.specs.Studies.{most_places, sealed};
 
 use crate::studies::SealedStudy;
 use crate::types::{Place, Status};
-use crate::words::{
-    COUNT_KIND, ENTRY_KIND, EXIT_KIND, FORM, FORM_KIND, SERIAL_KIND, STATUS_KIND, STRUCK,
-    check_word, word,
-};
+use crate::words::{FORM, STRUCK, WordKind, check_word, word};
 use units::Refusal;
 
 impl SealedStudy<'_> {
@@ -29,7 +26,7 @@ impl SealedStudy<'_> {
 fn mark(status: Status, struck: bool) -> u32
     ensures { result ≡ status_mark status struck }
 {
-    let code = status.code();
+    let code = u32::from(status);
     if struck { code + STRUCK } else { code }
 }
 
@@ -38,15 +35,15 @@ fn life_words(place: &Place) -> [u32; 4]
 {
     let life = place.life;
     [
-        word(SERIAL_KIND, life.serial),
-        word(ENTRY_KIND, life.entry.0),
-        word(EXIT_KIND, life.exit.0),
-        word(STATUS_KIND, mark(life.status, place.struck)),
+        word(WordKind::Serial, life.serial),
+        word(WordKind::Entry, life.entry.0),
+        word(WordKind::Exit, life.exit.0),
+        word(WordKind::Status, mark(life.status, place.struck)),
     ]
 }
 
 fn write_places(places: &[Place], words: &mut [u32]) -> Result<usize, Refusal>
-    requires { length places.now ≤ 1024 }
+    requires { length places.now ≤ most_places }
     ensures answer { answer result ≡ write_answer (map plain places.now) words.old }
     ensures after { words.new ≡ write_after (map plain places.now) words.old }
 {
@@ -55,8 +52,9 @@ fn write_places(places: &[Place], words: &mut [u32]) -> Result<usize, Refusal>
     if words.len() <= end {
         return Err(Refusal::MemoryTooShort);
     }
-    words[0] = word(FORM_KIND, FORM);
-    words[1] = word(COUNT_KIND, count as u32);
+    words[0] = word(WordKind::Form, FORM);
+    words[1] = word(WordKind::Count, count as u32);
+    // By index: the library does not say what words that `as_chunks_mut` cuts end as.
     for (i, place) in places.iter().enumerate() {
         let at = 2 + 4 * i;
         words[at..at + 4].copy_from_slice(&life_words(place));

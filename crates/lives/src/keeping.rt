@@ -1,15 +1,12 @@
 // Opening a study, entering and striking lives, sealing.
-ghost use Rattle.std.specs.Prelude.{◌≡◌, false, map, is_ok, MatchResult};
+ghost use Rattle.std.specs.Prelude.{◌≡◌, false, map, is_ok};
 ghost use Rattle.units.specs.Refusals.{answer};
 ghost use Rattle.lives.specs.Lives.{judge, plain};
-ghost use Rattle.lives.specs.Memory.{Marked, NotMarked, NotPut, Put, unstruck_place};
 ghost use Rattle.lives.specs.Studies.{enter_after, enter_answer, held, opened, sealed, strike_after, strike_answer};
 
 use crate::studies::{OpenStudy, SealedStudy};
 use crate::types::{Life, Place, UncheckedLife};
 use units::Refusal;
-
-pub(crate) const MOST_PLACES: usize = 1024;
 
 impl<'a> OpenStudy<'a> {
     // An empty study over life memory. It uses at most 1,024 places of it.
@@ -27,8 +24,8 @@ impl<'a> OpenStudy<'a> {
         ensures refused { is_ok result ≡ false → self.new ≡ self.old }
         ensures named { self.new.memory.ghost_name ≡ self.old.memory.ghost_name }
     {
-        let life = unchecked.check()?;
-        self.put_unstruck(life)
+        let life = Life::try_from(unchecked)?;
+        self.put(life)
     }
 
     // Strikes the life at a place: it keeps its place and counts in no fit.
@@ -48,41 +45,6 @@ impl<'a> OpenStudy<'a> {
     {
         let OpenStudy { memory, used } = self;
         SealedStudy { memory, used }
-    }
-
-    pub(crate) fn put_unstruck(&mut self, life: Life) -> Result<usize, Refusal>
-        ensures { MatchResult result (λ i. Put self.old (unstruck_place life) i self.new) (λ e. NotPut self.old e self.new) }
-    {
-        self.put(Place {
-            life,
-            struck: false,
-        })
-    }
-
-    // The next place of memory is used.
-    fn put(&mut self, place: Place) -> Result<usize, Refusal>
-        ensures { MatchResult result (λ i. Put self.old place i self.new) (λ e. NotPut self.old e self.new) }
-    {
-        let next = self.used;
-        if next >= MOST_PLACES || next >= self.memory.len() {
-            return Err(Refusal::NoPlaceLeft);
-        }
-        self.memory[next] = place;
-        self.used = next + 1;
-        Ok(next)
-    }
-
-    fn mark(&mut self, place: usize) -> Result<(), Refusal>
-        ensures { MatchResult result (λ _. Marked self.old place self.new) (λ e. NotMarked self.old place e self.new) }
-    {
-        if place >= self.used {
-            return Err(Refusal::NothingToStrike);
-        }
-        if self.memory[place].struck {
-            return Err(Refusal::NothingToStrike);
-        }
-        self.memory[place].struck = true;
-        Ok(())
     }
 }
 

@@ -5,6 +5,8 @@ mod archiving;
 mod checking;
 mod keeping;
 mod loading;
+mod memory;
+mod reading;
 mod reopening;
 mod sheets;
 mod studies;

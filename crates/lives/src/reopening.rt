@@ -1,7 +1,6 @@
 // Going on from a sealed study: its archive is written, and loaded into a new study.
 ghost use Rattle.std.specs.Prelude.{◌≡◌};
 ghost use Rattle.units.specs.Refusals.{answer};
-ghost use Rattle.lives.specs.Memory.{Ready};
 ghost use Rattle.lives.specs.RoundTrip.{OnlyWritten, ReadsBack, take_over_after, take_over_answer, take_over_words};
 ghost use Rattle.lives.specs.Studies.{held, sealed};
 
@@ -16,28 +15,14 @@ impl OpenStudy<'_> {
         ensures words { words.new ≡ take_over_words (held self.old) (sealed from.now).places words.old }
         ensures named { self.new.memory.ghost_name ≡ self.old.memory.ghost_name }
     {
-        self.ready_for(from.used)?;
+        self.unused()?;
+        self.room_for(from.used)?;
         let length = from.write(words)?;
         self.load(&words[0..length])
-    }
-
-    // Whether the study is empty and its memory has so many places.
-    fn ready_for(&self, count: usize) -> Result<(), Refusal>
-        ensures { Ready self.now count result }
-    {
-        if self.used > 0 {
-            return Err(Refusal::StudyInUse);
-        }
-        if count > self.memory.len() {
-            return Err(Refusal::NoPlaceLeft);
-        }
-        Ok(())
     }
 }
 
 // What is written reads back, and no other words are taken for the same places.
-pub fn archive_laws() -> u8
+pub fn archive_laws()
     ensures { (ReadsBack) × (OnlyWritten) }
-{
-    0
-}
+{}

@@ -6,7 +6,8 @@ ghost use Rattle.lives.specs.Sheets.{plain_row, row_life, status_word};
 ghost use Rattle.lives.specs.Studies.{enter_after, enter_answer, held};
 
 use crate::studies::OpenStudy;
-use crate::types::{Life, Status, UncheckedLife};
+use crate::types::{Life, Status};
+use std::str::FromStr;
 use units::{Age, Refusal};
 
 // A row of a sheet: the hours from which and to which a unit was watched.
@@ -18,11 +19,13 @@ pub struct SheetRow<'a> {
     pub status: &'a str,
 }
 
-impl Status {
-    // The status that a word of a sheet says.
-    pub fn from_word(word: &str) -> Result<Status, Refusal>
-        ensures { answer result ≡ status_word word.now }
-    {
+// The status that a word of a sheet says.
+impl FromStr for Status {
+    type Err = Refusal;
+
+    ghost from_str_gives = { λ word result. answer result ≡ status_word word };
+
+    fn from_str(word: &str) -> Result<Status, Refusal> {
         match word {
             "FAILED" => Ok(Status::Failed),
             "WITHDRAWN" => Ok(Status::Withdrawn),
@@ -32,21 +35,17 @@ impl Status {
     }
 }
 
-impl SheetRow<'_> {
-    // The life that the row says.
-    pub fn check(&self) -> Result<Life, Refusal>
-        ensures { seen plain_life result ≡ row_life (plain_row self.now) }
-    {
-        let status = Status::from_word(self.status)?;
-        let entry = Age::from_hours(self.from_hours)?;
-        let exit = Age::from_hours(self.to_hours)?;
-        let unchecked = UncheckedLife {
-            serial: self.serial,
-            entry: entry.0,
-            exit: exit.0,
-            status: status.code(),
-        };
-        unchecked.check()
+// The life that the row says.
+impl TryFrom<&SheetRow<'_>> for Life {
+    type Error = Refusal;
+
+    ghost try_from_gives = { λ row result. seen plain_life result ≡ row_life (plain_row row.now) };
+
+    fn try_from(row: &SheetRow) -> Result<Life, Refusal> {
+        let status = row.status.parse::<Status>()?;
+        let entry = Age::from_hours(row.from_hours)?;
+        let exit = Age::from_hours(row.to_hours)?;
+        Life::new(row.serial, entry, exit, status)
     }
 }
 
@@ -58,7 +57,7 @@ impl OpenStudy<'_> {
         ensures refused { is_ok result ≡ false → self.new ≡ self.old }
         ensures named { self.new.memory.ghost_name ≡ self.old.memory.ghost_name }
     {
-        let life = row.check()?;
-        self.put_unstruck(life)
+        let life = Life::try_from(row)?;
+        self.put(life)
     }
 }

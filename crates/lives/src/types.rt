@@ -1,5 +1,7 @@
 // The life of a unit, and a place of a study that holds one.
 ghost use Rattle.std.specs.Prelude.{◌<◌, ◌≤◌};
+ghost use Rattle.lives.specs.declared.types.TheConstants.{LAST_SERIAL};
+ghost use Rattle.units.specs.Hours.{last_tick};
 
 use units::Age;
 
@@ -11,6 +13,9 @@ pub enum Status {
     Running,
 }
 
+// The highest serial.
+pub(crate) const LAST_SERIAL: u32 = 268_435_455;
+
 // A unit was watched from its entry age to its exit age. No life lacks the bounds.
 #[derive(Clone, Copy)]
 pub struct Life {
@@ -18,7 +23,7 @@ pub struct Life {
     pub entry: Age,
     pub exit: Age,
     pub status: Status,
-    ghost ok: { (1 ≤ serial) × (serial ≤ 268435455) × (entry.0 < exit.0) × (exit.0 ≤ 2097151) },
+    ghost ok: { (1 ≤ serial) × (serial ≤ LAST_SERIAL) × (entry.0 < exit.0) × (exit.0 ≤ last_tick) },
 }
 
 // A place of a study. A struck life keeps its place and counts in no fit.
