@@ -6,7 +6,7 @@ use Rattle.units.specs.declared.ages.Age.{Age}
 use Rattle.sources.specs.Ticks.{upto, between}
 use Rattle.sources.specs.Counts.{Lawful}
 use Rattle.sources.specs.Ages.{latest, oldest, first_failure, next_failure}
-use Rattle.sources.specs.Questions.{Next, NextUpTo, Oldest, sooner, QuestionsStand}
+use Rattle.sources.specs.Questions.{Next, Oldest, QuestionsStand}
 use Rattle.sources.specs.Tallies.{flat, upto_le}
 
 -- ---- the next failure age
@@ -65,13 +65,6 @@ next_once f x (Some a) (Some b) h k = elim (cases_lt a.0 b.0) [
 pub next_is : (n f : ℕ → ℕ) → Lawful n f → (x : ℕ) (o : Option Age) → Next f x o → o ≡ next_failure f x
 next_is n f laws x o h = next_once f x o (next_failure f x) h (next_means n f laws x)
 
--- the same up to an age, where the next failure is not past it, and where it is
-pub next_near : (f : ℕ → ℕ) (x last : ℕ) (a : Age) → Next f x (Some a) → a.0 ≤ last → NextUpTo f x last (Some a)
-next_near f x last a h l = (h.0, l, h.1, h.2)
-
-pub next_far : (f : ℕ → ℕ) (x last : ℕ) (a : Age) → Next f x (Some a) → last < a.0 → NextUpTo f x last None
-next_far f x last a h l = λ t g m. h.2 t g (omega arith)
-
 -- ---- the oldest age
 
 latest_suc : (n : ℕ → ℕ) (t : ℕ) → latest n (suc t) ≡ cond (ltb 0 (n (suc t))) (suc t) (latest n t)
@@ -120,10 +113,21 @@ oldest_means n f laws = latest_means n last_tick (λ u l. laws.ends u l)
 pub questions_stand : QuestionsStand
 questions_stand n f laws = (next_means n f laws, oldest_means n f laws)
 
+-- of the same counts
+pub next_same : (f g : ℕ → ℕ) → ((t : ℕ) → f t ≡ g t) → (x : ℕ) (o : Option Age) → Next f x o → Next g x o
+next_same f g e x None h = λ t l. omega (arith, e t, h t l)
+next_same f g e x (Some a) h = (h.0, omega (arith, e a.0, h.1), λ t l m. omega (arith, e t, h.2 t l m))
+
 -- ---- the sum of two counts
 
+-- the lower of two ages, each of which may be none
+abbrev pub sooner : Option Age → Option Age → Option Age
+sooner None b = b
+sooner (Some a) None = Some a
+sooner (Some a) (Some b) = Some (record { 0 = min a.0 b.0 })
+
 module _ (f a b : ℕ → ℕ) (sum : (t : ℕ) → f t ≡ a t + b t) (x : ℕ) where
-  next_right : Next a x None → (o : Option Age) → Next b x o → Next f x o
+  pub next_right : Next a x None → (o : Option Age) → Next b x o → Next f x o
   next_right p None q = λ t l. omega (arith, sum t, p t l, q t l)
   next_right p (Some y) q = (q.0, omega (arith, sum y.0, q.1), λ t l k. omega (arith, sum t, p t l, q.2 t l k))
 

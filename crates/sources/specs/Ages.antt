@@ -1,5 +1,5 @@
 -- The ages of counts: those with failures, and the oldest that is watched.
-use Rattle.std.specs.Prelude.{ℕ, zero, suc, ◌-◌, cond, List, [], ◌∷◌, ◌++◌, Some, None, Option, nat_lt}
+use Rattle.std.specs.Prelude.{ℕ, filter, zero, suc, ◌-◌, cond, List, [], ◌∷◌, ◌++◌, Some, None, Option, nat_lt}
 use Rattle.units.specs.Hours.{last_tick}
 use Rattle.units.specs.declared.ages.Age.{Age}
 
@@ -7,6 +7,10 @@ use Rattle.units.specs.declared.ages.Age.{Age}
 unfoldable pub ages : (ℕ → ℕ) → ℕ → List ℕ
 ages f zero = []
 ages f (suc t) = ages f t ++ cond (nat_lt 0 (f (suc t))) (suc t ∷ []) []
+
+-- the same, but only those above x
+abbrev pub ages_above : (ℕ → ℕ) → ℕ → ℕ → List ℕ
+ages_above f x t = filter (λ u. nat_lt x u) (ages f t)
 
 -- the greatest age from 1 to t at which n is not 0, or 0
 unfoldable pub latest : (ℕ → ℕ) → ℕ → ℕ

@@ -1,35 +1,14 @@
--- Bench runs as plain values, and their counts.
-use Rattle.std.specs.Prelude.{ℕ, ◌+◌, ◌-◌, Bool, true, cond, ◌&&◌, List, [], ◌∷◌, map, length, Ok, Err, Result, ◌==◌, nat_le, nat_lt}
-use Rattle.units.specs.Hours.{last_tick, age_ticks}
+-- What bench runs mean: their data, and their counts.
+use Rattle.std.specs.Prelude.{ℕ, ◌+◌, ◌-◌, cond, ◌&&◌, List, [], ◌∷◌, map, Ok, Err, Result, ◌==◌, nat_le, nat_lt}
+use Rattle.units.specs.Hours.{age_ticks}
 use Rattle.units.specs.Refusals.{Refused, refused}
 use Rattle.sources.specs.Counts.{Counts}
-use Rattle.sources.specs.declared.bench.BenchRun.{BenchRun}
-
--- the units on test, the ages at which some failed, and the age at which the run was stopped
-pub record PlainBench : Type 0 where
-  pub units : ℕ
-  pub ages : List ℕ
-  pub stop : ℕ
+pub use Rattle.sources.specs.BenchRules.{PlainBench, most_units, in_order, sizes_valid}
+unfoldable pub use Rattle.sources.specs.BenchRules.{valid}
+use Rattle.sources.specs.declared.run.BenchRun.{BenchRun}
 
 abbrev pub plain_bench : BenchRun → PlainBench
 plain_bench b = record { units = b.units; ages = map age_ticks b.ages.now; stop = b.stop.0 }
-
--- the most units on test
-abbrev pub most_units : ℕ
-most_units = 1024
-
--- each age from lo to hi, and none below the one before it
-abbrev pub in_order : ℕ → ℕ → List ℕ → Bool
-in_order lo hi [] = true
-in_order lo hi (x ∷ xs) = (nat_le lo x && nat_le x hi) && in_order x hi xs
-
--- 1 to 1,024 units, a stop age from 1 to the last tick, and no more failures than units
-abbrev pub sizes_valid : ℕ → ℕ → ℕ → Bool
-sizes_valid units failures stop = (nat_le 1 units && nat_le units most_units) && ((nat_le 1 stop && nat_le stop last_tick) && nat_le failures units)
-
--- the rules of bench data: the sizes, and failure ages in order from 1 to the stop age
-unfoldable pub valid : PlainBench → Bool
-valid b = sizes_valid b.units (length b.ages) b.stop && in_order 1 b.stop b.ages
 
 -- 11 where the data break the rules
 abbrev pub check_answer : PlainBench → Result (Unit {0}) Refused

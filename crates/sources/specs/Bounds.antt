@@ -20,6 +20,10 @@ percentiles Percent90 = 4605 ∷ 7779 ∷ 10645 ∷ 13362 ∷ 15987 ∷ 18549 �
 abbrev pub percentile : Confidence → ℕ → ℕ
 percentile confidence failures = slice_index (percentiles confidence) (failures - 1)
 
+-- 15 where there are over ten failures
+abbrev pub percentile_answer : Confidence → ℕ → Result ℕ Refused
+percentile_answer confidence failures = cond (nat_lt most_bound_failures failures) (Err (refused 15)) (Ok (percentile confidence failures))
+
 -- a / b, rounded up
 abbrev pub rounded_up : ℕ → ℕ → ℕ
 rounded_up a b = (a + (b - 1)) / b

@@ -2,8 +2,14 @@
 use Rattle.std.specs.Prelude.{ℕ, cond, List, [], ◌∷◌, ◌++◌, length, drop, Ok, Err, Result, nat_le}
 use Rattle.units.specs.Refusals.{Refused, refused}
 use Rattle.sources.specs.Ticks.{between}
-use Rattle.sources.specs.Ages.{ages}
+use Rattle.sources.specs.Counts.{Counts}
+use Rattle.sources.specs.Ages.{ages, ages_above}
+use Rattle.sources.specs.declared.gaps.FailureAges.{FailureAges}
 use Rattle.sources.specs.declared.gaps.Gap.{Gap}
+
+-- the failure ages that a walk over a source has left, by the counts that a source means
+abbrev pub ages_left : {S : Type 0} → (S → Counts) → FailureAges S → List ℕ
+ages_left counts w = ages_above (counts w.source.now).failed w.above.0 w.last.0
 
 -- the gap from one age to a failure age: that age, its failures, and the exposure of the gap
 abbrev pub gap : (ℕ → ℕ) → (ℕ → ℕ) → ℕ → ℕ → Gap

@@ -5,6 +5,7 @@ pub mod Tallies
 pub mod Questions
 pub mod Studies
 pub mod StudyLaws
+pub mod BenchRules
 pub mod Benches
 pub mod BenchLaws
 pub mod Bounds

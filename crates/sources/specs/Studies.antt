@@ -1,5 +1,6 @@
 -- The counts of a study, by the plain list of its places.
-use Rattle.std.specs.Prelude.{ℕ, ◌+◌, ◌-◌, min, max, Bool, true, false, cond, not, ◌&&◌, List, [], ◌∷◌, ◌==◌, nat_le, nat_lt}
+use Rattle.std.specs.Prelude.{ℕ, ◌+◌, ◌-◌, min, max, Bool, true, false, cond, not, ◌&&◌, List, [], ◌∷◌, Some, None, Option, ◌==◌, nat_le, nat_lt}
+use Rattle.units.specs.declared.ages.Age.{Age}
 use Rattle.lives.specs.Lives.{PlainPlace}
 use Rattle.lives.specs.declared.types.Status.{Status}
 use Rattle.lives.specs.declared.types.Status.TheVariants.{Failed, Withdrawn, Running}
@@ -17,6 +18,10 @@ watched_at t p = not p.struck && (nat_lt p.life.entry t && nat_le t p.life.exit)
 -- a life that is not struck failed at t: a failed life failed at its exit age
 abbrev pub failed_at : ℕ → PlainPlace → Bool
 failed_at t p = not p.struck && (is_failed p.life.status && p.life.exit == t)
+
+-- the age at which a life failed, where it did and is not struck
+abbrev pub failure_of : PlainPlace → Option Age
+failure_of p = cond (not p.struck && is_failed p.life.status) (Some (record { 0 = p.life.exit })) None
 
 -- how many of the places pass a test
 abbrev pub count : (PlainPlace → Bool) → List PlainPlace → ℕ
@@ -36,7 +41,3 @@ study_counts ps = record { watched = study_watched ps; failed = study_failed ps 
 -- the ticks after one age and up to another at which a life is watched
 abbrev pub ticks_of : PlainPlace → ℕ → ℕ → ℕ
 ticks_of p from to = cond p.struck 0 (min p.life.exit to - max p.life.entry from)
-
--- the last age at which a life is watched, or 0 where it is struck
-abbrev pub last_age_of : PlainPlace → ℕ
-last_age_of p = cond p.struck 0 p.life.exit

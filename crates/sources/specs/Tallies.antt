@@ -34,10 +34,6 @@ upto_zero f = refl
 pub upto_flat : (f : ℕ → ℕ) (a b : ℕ) → a ≤ b → ((u : ℕ) → a < u → u ≤ b → f u ≡ 0) → upto f b ≡ upto f a
 upto_flat f a b h q = flat (upto f) f (upto_none f) a b h q
 
-pub upto_hop : (f : ℕ → ℕ) (a t : ℕ) → a < t → ((u : ℕ) → a < u → u < t → f u ≡ 0) → upto f t ≡ upto f a + f t
-upto_hop f a zero h q = omega arith
-upto_hop f a (suc m) h q = rw (upto_suc f m, upto_flat f a m (omega arith) (λ u l n. q u l (omega arith)))
-
 upto_mono : (f : ℕ → ℕ) (a k : ℕ) → upto f a ≤ upto f (a + k)
 upto_mono f a zero = rw add-zero (omega arith)
 upto_mono f a (suc k) = rw add-suc (omega (arith, upto_suc f (a + k), upto_mono f a k))

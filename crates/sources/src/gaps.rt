@@ -1,16 +1,17 @@
-// Walks over the failure ages of any source: how many there are, their failures, and the table of gaps.
-ghost use Rattle.std.specs.Prelude.{◌≡◌, ◌≤◌, ◌++◌, length, drop, nat_le};
+// The failure ages of any source: how many there are, their failures, and the table of gaps.
+ghost use Rattle.std.specs.Prelude.{◌≡◌, ◌≤◌, ◌++◌, length, drop};
 ghost use Rattle.units.specs.Refusals.{answer};
+ghost use Rattle.std.specs.Iterator.{YieldsFirstBy, item_count};
+ghost use Rattle.units.specs.Hours.{age_ticks};
 ghost use Rattle.sources.specs.Ages.{ages};
-ghost use Rattle.sources.specs.Gaps.{gap, gaps, list_answer, list_memory};
-ghost use Rattle.sources.specs.Questions.{NextUpTo};
+ghost use Rattle.sources.specs.Gaps.{ages_left, gap, gaps, list_answer, list_memory};
 ghost use Rattle.sources.specs.Ticks.{upto, whole};
 
-use crate::source::{LAST_AGE, Source};
+use crate::source::Source;
 use units::{Age, Exposure, Refusal};
 
 // A gap runs from the failure age before it, or from 0, to its own failure age.
-#[derive(Clone, Copy)]
+#[derive(Clone, Copy, PartialEq, Eq, Default, Debug)]
 pub struct Gap {
     pub age: Age,
     // The failures at that age.
@@ -19,37 +20,63 @@ pub struct Gap {
     pub exposure: Exposure,
 }
 
+// The failure ages of a source above an age and up to the last, in order.
+#[derive(Drop)]
+struct FailureAges<'a, S> {
+    source: &'a S,
+    above: Age,
+    last: Age,
+}
+
+impl<'a, S: Source> Iterator for FailureAges<'a, S> {
+    type Item = Age;
+
+    ghost next_gives = { YieldsFirstBy age_ticks (ages_left S.counts) };
+
+    ghost remaining = { item_count (ages_left S.counts) };
+
+    fn next(&mut self) -> Option<Age> {
+        let next = self.source.next_failure(self.above)?;
+        if next > self.last {
+            return None;
+        }
+        self.above = next;
+        Some(next)
+    }
+}
+
+// The failure ages of a source up to the last.
+fn failure_ages<S: Source>(source: &S, last: Age) -> FailureAges<'_, S>
+    ensures { ages_left S.counts result ≡ ages (S.counts source.now).failed last.0 }
+{
+    FailureAges {
+        source,
+        above: Age(0),
+        last,
+    }
+}
+
 // All exposure of a source.
 pub fn total_time_on_test<S: Source>(source: &S) -> Exposure
     ensures { result.0 ≡ whole (S.counts source.now).watched }
 {
-    source.exposure_between(Age(0), Age(LAST_AGE))
+    source.exposure_between(Age(0), Age::LAST)
 }
 
 // How many ages up to the last have failures.
 pub fn count_failure_ages<S: Source>(source: &S, last: Age) -> usize
     ensures { result ≡ length (ages (S.counts source.now).failed last.0) }
 {
-    let mut count = 0;
-    let mut age = Age(0);
-    while let Some(next) = next_up_to(source, age, last) {
-        count += 1;
-        age = next;
-    }
-    count
+    failure_ages(source, last).count()
 }
 
 // The failures at all ages up to the last.
 pub fn failures_up_to<S: Source>(source: &S, last: Age) -> u32
     ensures { result ≡ upto (S.counts source.now).failed last.0 }
 {
-    let mut sum = 0;
-    let mut age = Age(0);
-    while let Some(next) = next_up_to(source, age, last) {
-        sum += source.failures_at(next);
-        age = next;
-    }
-    sum
+    failure_ages(source, last)
+        .map(|age| source.failures_at(age))
+        .sum()
 }
 
 // Writes the gaps of the failure ages up to the last, and answers their number.
@@ -69,12 +96,11 @@ fn write_gaps<S: Source>(source: &S, last: Age, memory: &mut [Gap])
     requires { length (ages (S.counts source.now).failed last.0) ≤ length memory.old }
     ensures { memory.new ≡ gaps (S.counts source.now).watched (S.counts source.now).failed last.0 ++ drop (length (ages (S.counts source.now).failed last.0)) memory.old }
 {
-    let mut count = 0;
-    let mut age = Age(0);
-    while let Some(next) = next_up_to(source, age, last) {
-        memory[count] = gap_between(source, age, next);
-        count += 1;
-        age = next;
+    // Written by index: of memory that `iter_mut` went over, a proof knows the length alone.
+    let mut from = Age(0);
+    for (i, age) in failure_ages(source, last).enumerate() {
+        memory[i] = gap_between(source, from, age);
+        from = age;
     }
 }
 
@@ -87,19 +113,4 @@ pub fn gap_between<S: Source>(source: &S, from: Age, to: Age) -> Gap
         failures: source.failures_at(to),
         exposure: source.exposure_between(from, to),
     }
-}
-
-fn next_up_to<S: Source>(source: &S, above: Age, last: Age) -> Option<Age>
-    ensures { NextUpTo (S.counts source.now).failed above.0 last.0 result }
-{
-    match source.next_failure(above) {
-        Some(age) => if is_up_to(age, last) { Some(age) } else { None },
-        None => None,
-    }
-}
-
-fn is_up_to(age: Age, last: Age) -> bool
-    ensures { result ≡ nat_le age.0 last.0 }
-{
-    age.0 <= last.0
 }

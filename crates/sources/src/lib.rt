@@ -4,14 +4,15 @@
 mod bench;
 mod bound;
 mod gaps;
+mod run;
 mod source;
 mod study;
 
-pub use bench::BenchRun;
 pub use bound::Confidence;
 pub use gaps::{
     Gap, count_failure_ages, failures_up_to, gap_between, list_gaps, total_time_on_test,
 };
+pub use run::BenchRun;
 pub use source::{Source, questions_stand};
 
 #[cfg(test)]

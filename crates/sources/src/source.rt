@@ -7,9 +7,6 @@ ghost use Rattle.sources.specs.Ticks.{between};
 
 use units::{Age, Exposure};
 
-// The highest age.
-pub(crate) const LAST_AGE: u32 = 2_097_151;
-
 // A source means two counts for each tick: the units watched in it, and the failures at its end.
 // Every question is answered by the counts, for any ages, and changes nothing.
 pub trait Source {
@@ -36,8 +33,6 @@ pub trait Source {
 }
 
 // What the next failure age and the oldest age are, for the counts of any source.
-pub fn questions_stand() -> u8
+pub fn questions_stand()
     ensures { QuestionsStand }
-{
-    0
-}
+{}

@@ -1,10 +1,10 @@
 // A sealed study is a source: its lives that are not struck, each watched from its entry age to its exit age.
-ghost use Rattle.std.specs.Prelude.{◌≡◌, ◌≤◌, map, length, if◌then◌else◌};
+ghost use Rattle.std.specs.Prelude.{◌≡◌, ◌≤◌, map, length};
 ghost use Rattle.lives.specs.Lives.{plain};
 ghost use Rattle.lives.specs.Studies.{sealed};
 ghost use Rattle.sources.specs.Counts.{most_failures};
-ghost use Rattle.sources.specs.Questions.{Next, Oldest, sooner};
-ghost use Rattle.sources.specs.Studies.{failed_at, is_failed, last_age_of, study_counts, study_failed, study_watched, ticks_of};
+ghost use Rattle.sources.specs.Questions.{Next, Oldest};
+ghost use Rattle.sources.specs.Studies.{failure_of, study_counts, study_failed, study_watched, ticks_of};
 ghost use Rattle.sources.specs.StudyLaws.{sealed_laws};
 ghost use Rattle.sources.specs.Ticks.{between};
 
@@ -37,82 +37,46 @@ impl<'a> Source for SealedStudy<'a> {
 fn next_failure_in(places: &[Place], above: Age) -> Option<Age>
     ensures { Next (study_failed (map plain places.now)) above.0 result }
 {
-    let mut next: Option<Age> = None;
-    for place in places {
-        next = earlier(next, failure_after(*place, above));
-    }
-    next
+    places
+        .iter()
+        .filter_map(|place| failure_age(*place))
+        .filter(|age| *age > above)
+        .min()
 }
 
 fn failures_in(places: &[Place], age: Age) -> u32
     requires { length places.now ≤ most_failures }
     ensures { result ≡ study_failed (map plain places.now) age.0 }
 {
-    let mut count = 0;
-    for place in places {
-        if fails_at(*place, age) {
-            count += 1;
-        }
-    }
-    count
+    places
+        .iter()
+        .filter(|place| failure_age(**place) == Some(age))
+        .count() as u32
 }
 
 fn exposure_in(places: &[Place], from: Age, to: Age) -> Exposure
     requires { length places.now ≤ most_failures }
     ensures { result.0 ≡ between (study_watched (map plain places.now)) from.0 to.0 }
 {
-    let mut sum = 0;
-    for place in places {
-        sum += ticks(*place, from, to);
-    }
-    Exposure(sum)
+    Exposure(places.iter().map(|place| ticks(*place, from, to)).sum())
 }
 
 fn oldest_in(places: &[Place]) -> Age
     ensures { Oldest (study_watched (map plain places.now)) result.0 }
 {
-    let mut oldest = 0;
-    for place in places {
-        oldest = last_age(*place).max(oldest);
-    }
-    Age(oldest)
+    places
+        .iter()
+        .filter(|place| !place.struck)
+        .map(|place| place.life.exit)
+        .max()
+        .unwrap_or_default()
 }
 
-fn has_failed(status: Status) -> bool
-    ensures { result ≡ is_failed status }
+// The age at which a life failed that is not struck.
+fn failure_age(place: Place) -> Option<Age>
+    ensures { result ≡ failure_of (plain place) }
 {
-    match status {
-        Status::Failed => true,
-        Status::Withdrawn | Status::Running => false,
-    }
-}
-
-// `&` has no branch, so the proof has one way.
-fn fails_at(place: Place, age: Age) -> bool
-    ensures { result ≡ failed_at age.0 (plain place) }
-{
-    !place.struck & (has_failed(place.life.status) & (place.life.exit.0 == age.0))
-}
-
-fn failure_after(place: Place, above: Age) -> Option<Age>
-    ensures { Next (λ t. (if failed_at t (plain place) then 1 else 0)) above.0 result }
-{
-    if fails_at(place, place.life.exit) {
-        if place.life.exit.0 > above.0 {
-            return Some(place.life.exit);
-        }
-    }
-    None
-}
-
-fn earlier(a: Option<Age>, b: Option<Age>) -> Option<Age>
-    ensures { result ≡ sooner a b }
-{
-    match (a, b) {
-        (Some(x), Some(y)) => Some(Age(x.0.min(y.0))),
-        (Some(x), None) => Some(x),
-        (None, y) => y,
-    }
+    (!place.struck && place.life.status == Status::Failed).then_some(place.life.exit)
 }
 
 fn ticks(place: Place, from: Age, to: Age) -> u32
@@ -121,13 +85,7 @@ fn ticks(place: Place, from: Age, to: Age) -> u32
     if place.struck {
         return 0;
     }
-    let low = place.life.entry.0.max(from.0);
-    let high = place.life.exit.0.min(to.0);
-    if low < high { high - low } else { 0 }
-}
-
-fn last_age(place: Place) -> u32
-    ensures { result ≡ last_age_of (plain place) }
-{
-    if place.struck { 0 } else { place.life.exit.0 }
+    let low = place.life.entry.max(from);
+    let high = place.life.exit.min(to);
+    high.0.saturating_sub(low.0)
 }

@@ -1,13 +1,14 @@
-use Rattle.std.proofs.Common.{sym, ◌∙◌}
-use Rattle.sources.specs.Benches.{in_order}
-use Rattle.sources.proofs.Benches.{ages_none, order_on, order_off}
+use Rattle.std.proofs.Common.{rules, ◌∙◌}
+use Rattle.std.proofs.lemmas.Iterator.{YieldsList-from_slice, cases_from_all}
+use borrow.Author.Tests.{tests}
+use Rattle.sources.proofs.Benches.{Within, Outside, order_broken, order_whole}
 use Rattle.sources.proofs.bench.are_in_order.Goals as goal
 
-pub loop-age-preserved : goal.loop-age-preserved
-loop-age-preserved c = order_on c.loop-age.low.0 c.args.stop.0 c.args.ages.now c.loop-age.age-index _ c.loop-age-test.true c.loop-age.invariant c.if-not-is_within.ensures
+pub returns-then-is_sorted : goal.returns-then-is_sorted
+returns-then-is_sorted c =
+    let xs = c.args.ages.now in
+    let hi = c.args.stop.0 in
+    order_whole c.all.result hi xs c.if-is_sorted.ensures.cases (cases_from_all _ _ _ (Within hi) (Outside hi) c.all.ensures.ran (YieldsList-from_slice xs (cc)) (λ x q k. search (rules, tests)) (λ x q k. search (rules, tests)))
 
-pub returns-then-not-is_within : goal.returns-then-not-is_within
-returns-then-not-is_within c = order_off c.loop-age.low.0 c.args.stop.0 c.args.ages.now c.loop-age.age-index _ c.loop-age-test.true c.loop-age.invariant c.if-not-is_within.ensures
-
-pub returns : goal.returns
-returns c = sym (ages_none (in_order c.loop-age.low.0 c.args.stop.0) c.args.ages.now c.loop-age.age-index c.loop-age-test.false) ∙ c.loop-age.invariant
+pub returns-else-is_sorted : goal.returns-else-is_sorted
+returns-else-is_sorted c = c.if-is_sorted.false ∙ order_broken 1 c.args.stop.0 c.args.ages.now c.if-is_sorted.ensures.cases

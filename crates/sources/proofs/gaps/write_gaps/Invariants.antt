@@ -1,14 +1,10 @@
-use Rattle.std.proofs.Common.{◌≡◌, ◌-◌, ◌≤◌, length, take, drop}
-use Rattle.sources.specs.Ages.{ages, latest}
-use Rattle.sources.specs.Gaps.{gaps}
+use Rattle.sources.specs.Ages.{ages}
+use Rattle.sources.specs.Gaps.{ages_left}
+use Rattle.sources.proofs.Ages.{Written}
 use Rattle.sources.proofs.gaps.write_gaps.Given as goal
 
-abbrev pub invariant-loop-next : goal.invariant-loop-next
-invariant-loop-next g l =
-    (l.count ≡ length (ages (g.S.Source.counts l.source).failed l.age.0)) × (l.age.0 ≤ l.last.0)
-    × (l.age.0 ≡ latest (g.S.Source.counts l.source).failed l.age.0)
-    × (take l.count l.memory ≡ gaps (g.S.Source.counts l.source).watched (g.S.Source.counts l.source).failed l.age.0)
-    × (drop l.count l.memory ≡ drop l.count l.initial.memory)
-
-abbrev pub decreases-loop-next : goal.decreases-loop-next
-decreases-loop-next g l = l.last.0 - l.age.0
+abbrev pub invariant-loop-i : goal.invariant-loop-i
+invariant-loop-i g l =
+    let n = (g.S.Source.counts l.source).watched in
+    let f = (g.S.Source.counts l.source).failed in
+    Written n f (ages f l.fn.last.0) l.initial.memory l.memory l.i-iterator.count l.from.0 (ages_left g.S.Source.counts l.i-iterator.iter)

@@ -1,33 +1,27 @@
-use Rattle.std.proofs.Common.{length, sym, arith}
+use Rattle.std.proofs.Common.{map, length, sym, ap, ◌∙◌, subst, arith}
 use Rattle.std.proofs.lemmas.List.{length-map}
-use Rattle.std.proofs.lemmas.Bool.{ltb-true, ltb-false}
 use Rattle.units.specs.Hours.{age_ticks}
-use Rattle.sources.specs.Benches.{plain_bench}
-use Rattle.sources.specs.BenchLaws.{valid_means, watched_void, bench_laws}
+use Rattle.sources.specs.Benches.{plain_bench, bench_watched}
+use Rattle.sources.specs.BenchLaws.{watched_void, bench_laws}
+use Rattle.sources.specs.Questions.{Oldest}
+use Rattle.sources.proofs.Ages.{final}
 use Rattle.sources.proofs.Questions.{oldest_is, oldest_void}
-use Rattle.sources.proofs.Benches.{oldest_stop, oldest_last}
+use Rattle.sources.proofs.Benches.{oldest_stop, oldest_last, last_or_zero}
 use Rattle.sources.proofs.bench.BenchRunSource.oldest_age.Goals as goal
 
-pub returns-then-not-is_valid : goal.returns-then-not-is_valid
-returns-then-not-is_valid c = oldest_is _ _ (bench_laws (plain_bench c.args.self.now)) 0 (oldest_void _ (watched_void _ (sym c.if-not-is_valid.ensures)))
+pub returns-in_default : goal.returns-in_default
+returns-in_default c = oldest_is _ _ (bench_laws (plain_bench c.args.self.now)) 0 (oldest_void _ (watched_void _ c.in_default.ensures))
 
-pub returns-then-has_survivors : goal.returns-then-has_survivors
-returns-then-has_survivors c =
+pub returns-then-ages-self : goal.returns-then-ages-self
+returns-then-ages-self c =
     let b = c.args.self.now in
-    let less = ltb-true (length b.ages.now) b.units (sym c.if-has_survivors.ensures) in
-    oldest_is _ _ (bench_laws (plain_bench b)) b.stop.0 (oldest_stop (plain_bench b) (sym c.if-not-is_valid.ensures) (omega (arith, less, length-map b.ages.now age_ticks)))
-
-pub overflow_sub-result : goal.overflow_sub-result
-overflow_sub-result c =
-    let b = c.args.self.now in
-    omega (arith, (valid_means (plain_bench b) (sym c.if-not-is_valid.ensures)).some, ltb-false (length b.ages.now) b.units (sym c.if-has_survivors.ensures))
-
-pub bounds-self-self : goal.bounds-self-self
-bounds-self-self c =
-    let b = c.args.self.now in
-    omega (arith, (valid_means (plain_bench b) (sym c.if-not-is_valid.ensures)).some, ltb-false (length b.ages.now) b.units (sym c.if-has_survivors.ensures))
+    oldest_is _ _ (bench_laws (plain_bench b)) b.stop.0 (oldest_stop (plain_bench b) c.in-Some.ensures.0 (omega (arith, c.if-ages-self.true, ap length c.in-Some.ensures.1, length-map b.ages.now age_ticks)))
 
 pub returns : goal.returns
 returns c =
     let b = c.args.self.now in
-    oldest_is _ _ (bench_laws (plain_bench b)) _ (oldest_last b (sym c.if-not-is_valid.ensures) (ltb-false (length b.ages.now) b.units (sym c.if-has_survivors.ensures)))
+    let e = c.in-Some.ensures.0 in
+    let last = last_or_zero c.in-Some.ages.now c.copied.result c.unwrap_or_default.result (c.copied.ensures ∙ c.last.ensures.value) c.unwrap_or_default.ensures in
+    oldest_is _ _ (bench_laws (plain_bench b)) _
+    (subst (Oldest (bench_watched (plain_bench b))) (ap (λ xs. final 0 (map age_ticks xs)) (sym c.in-Some.ensures.1) ∙ last)
+    (oldest_last (plain_bench b) e (omega (arith, c.if-ages-self.false, ap length c.in-Some.ensures.1, length-map b.ages.now age_ticks))))
