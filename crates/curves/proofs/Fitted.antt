@@ -1,9 +1,8 @@
 -- What was read from the table, chosen and written is the curve.
-use Rattle.std.proofs.Common.{◌≡◌, ℕ, suc, ◌+◌, ◌-◌, ◌<◌, ◌≤◌, min, eqb, ltb, List, [], ◌∷◌, ◌++◌, map, length, take, drop, Some, None, sum_by, Option, sym, refl, ap, ◌∙◌, subst, inl, inr, arith}
+use Rattle.std.proofs.Common.{◌≡◌, ℕ, suc, ◌+◌, ◌-◌, ◌≤◌, List, [], ◌∷◌, ◌++◌, map, length, take, drop, None, sum_by, Option, sym, refl, ap, ◌∙◌, subst, arith}
 use Rattle.std.proofs.ByRecursion.{All-weaker}
 use Rattle.std.proofs.lemmas.List.{take-append-drop, take_at, length-map}
-use Rattle.std.proofs.lemmas.Bool.{cases_Bool, eqb-false, ltb-false, cond-true, cond-false}
-use Rattle.units.specs.Refusals.{Refused, refused}
+use Rattle.units.specs.Refusals.{Refused}
 use Rattle.isotonic.specs.Laws.{limit}
 use Rattle.pooling.specs.Kinds.{rate_bulk}
 use Rattle.pooling.specs.Pooling.{unless_refused, left_to_builder, written}
@@ -17,31 +16,19 @@ use Rattle.curves.specs.Faults.{Fault}
 use Rattle.curves.specs.Fits.{step_made, plain_step, fit_made, shown, due, fit_work}
 use Rattle.curves.specs.Pieces.{row, left_pieces, right_pieces}
 use Rattle.curves.specs.Rivals.{Allowed}
-use Rattle.curves.specs.Tables.{left_at, right_at, table, table_score, table_steps, table_turning}
+use Rattle.curves.specs.Tables.{AllLight, left_at, right_at, side_pieces, table, table_score, table_steps, table_turning}
 use Rattle.curves.specs.Theorems.{WholePiece}
 use Rattle.curves.specs.declared.fits.Fit.{Fit}
 use Rattle.curves.specs.declared.shapes.Shape.{Shape}
 use Rattle.curves.specs.declared.shapes.Shape.TheVariants.{Falling, Rising, UShaped}
+use Rattle.curves.specs.declared.side.Side.{Side}
+use Rattle.curves.specs.declared.side.Side.TheVariants.{Left, Right}
 use Rattle.curves.specs.declared.step.Step.{Step}
 use Rattle.curves.proofs.Best.{best_same}
 use Rattle.curves.proofs.Faultless.{sound_at, own_allowed, no_curve_has_a_fault}
 use Rattle.curves.proofs.Parts.{rates_light}
 use Rattle.curves.proofs.Steps.{gap_range}
 use Rattle.curves.proofs.Tabled.{left_is, right_is, score_is, steps_are}
-
--- ---- what was tested
-
-pub fit_accepted : (k steps works : ℕ) → fit_refusal k steps works ≡ None → (0 < k) × (k < min steps works)
-fit_accepted k steps works e =
-    elim (cases_Bool (eqb k 0)) [
-      | inl t ↦ let s : ◌≡◌ {A = Option Refused} (Some (refused 12)) None = sym (cond-true (eqb k 0) _ _ t) ∙ e in let z : ◌≡◌ {A = ℕ} 0 1 = cc in absurd (omega arith)
-      | inr f ↦ elim (cases_Bool (ltb (min steps works) (suc k))) [
-        | inl t ↦
-            let s : ◌≡◌ {A = Option Refused} (Some (refused 13)) None = sym (cond-true (ltb (min steps works) (suc k)) _ _ t) ∙ sym (cond-false (eqb k 0) _ _ f) ∙ e in
-            let z : ◌≡◌ {A = ℕ} 0 1 = cc in absurd (omega arith)
-        | inr g ↦ let a = eqb-false k 0 f in let b = ltb-false (min steps works) (suc k) g in (omega arith, omega arith)
-      ]
-    ]
 
 -- ---- the table gives the curve
 
@@ -69,11 +56,14 @@ module _ (c : Counts) (shape : Shape) (laws : Lawful c.watched c.failed) (gs : L
   -- what the turning gap t + 1 of the table gives, of k counted ages
   pub record Given (k t : ℕ) : Type 0 where
     pub within : t ≤ k
-    pub left_light : sum_by rate_bulk (row (left_at gs) 0 t) ≤ limit
-    pub right_light : sum_by rate_bulk (row (right_at gs) t (k - t)) ≤ limit
+    pub light : (side : Side) → sum_by rate_bulk (side_pieces gs k t side) ≤ limit
     pub gap : t + 1 ≡ turning c shape
     pub score : table_score gs k t ≡ score_of c shape (turning c shape)
     pub steps : table_steps gs k t ≡ map step_made (steps_of c shape (turning c shape))
+
+on_both : (gs : List Gap) (k t : ℕ) → sum_by rate_bulk (row (left_at gs) 0 t) ≤ limit → sum_by rate_bulk (row (right_at gs) t (k - t)) ≤ limit → (side : Side) → sum_by rate_bulk (side_pieces gs k t side) ≤ limit
+on_both gs k t left right Left = left
+on_both gs k t left right Right = right
 
 -- the turning gap of the table is that of the curve
 turning_there : (c : Counts) (shape : Shape) (laws : Lawful c.watched c.failed) (gs : List Gap) → take (length (counted_ages c shape) + 1) gs ≡ table c.watched c.failed (counted_ages c shape) (oldest c.watched)
@@ -94,8 +84,7 @@ module _ (c : Counts) (shape : Shape) (laws : Lawful c.watched c.failed) (gs : L
       let light = sides_light c shape laws gs is t within (subst (Allowed shape (length (counted_ages c shape))) (sym up) (own_allowed c shape)) in
       record {
         within = within;
-        left_light = light.0;
-        right_light = light.1;
+        light = on_both gs (length (counted_ages c shape)) t light.0 light.1;
         gap = gap;
         score = score_there c shape laws gs is t within ∙ ap (score_of c shape) up;
         steps = steps_are c.watched c.failed (counted_ages c shape) (oldest c.watched) gs is t within light.0 light.1 ∙ ap (λ (j : ℕ). map step_made (steps_of c shape j)) up;
@@ -108,7 +97,7 @@ module _ (c : Counts) (shape : Shape) (laws : Lawful c.watched c.failed) (gs : L
 
 -- both full lists of pieces of a U-shaped fit stay within the bulk limit
 whole_light : (c : Counts) (laws : Lawful c.watched c.failed) (gs : List Gap) → take (length (counted_ages c UShaped) + 1) gs ≡ table c.watched c.failed (counted_ages c UShaped) (oldest c.watched)
-    → (sum_by rate_bulk (row (left_at gs) 0 (length (counted_ages c UShaped))) ≤ limit) × (sum_by rate_bulk (row (right_at gs) 0 (length (counted_ages c UShaped))) ≤ limit)
+    → AllLight gs (length (counted_ages c UShaped))
 whole_light c laws gs is =
     let k = length (counted_ages c UShaped) in
     let none : k - 0 ≡ k = omega arith in (
@@ -117,9 +106,9 @@ whole_light c laws gs is =
     )
 
 pub all_light : (c : Counts) (shape : Shape) (laws : Lawful c.watched c.failed) (gs : List Gap) (k : ℕ) → k ≡ length (counted_ages c shape) → take (k + 1) gs ≡ table c.watched c.failed (counted_ages c shape) (oldest c.watched)
-    → shape ≡ UShaped → (sum_by rate_bulk (row (left_at gs) 0 k) ≤ limit) × (sum_by rate_bulk (row (right_at gs) 0 k) ≤ limit)
+    → shape ≡ UShaped → AllLight gs k
 all_light c shape laws gs k e is u =
-    subst (λ (j : ℕ). (sum_by rate_bulk (row (left_at gs) 0 j) ≤ limit) × (sum_by rate_bulk (row (right_at gs) 0 j) ≤ limit)) (sym same)
+    subst (AllLight gs) (sym same)
     (whole_light c laws gs ((λ i. take (sym same i + 1) gs) ∙ is ∙ ap (λ (s : Shape). table c.watched c.failed (counted_ages c s) (oldest c.watched)) u))
   where
     same : k ≡ length (counted_ages c UShaped)

@@ -1,8 +1,8 @@
 -- Lists laid into a memory.
-use Rattle.std.proofs.Common.{◌≡◌, ℕ, ◌+◌, ◌-◌, ◌<◌, ◌≤◌, cond, eqb, List, [], ◌∷◌, ◌++◌, map, length, get_or, take, drop, set, sym, refl, ap, ◌∙◌, ap₂, arith}
-use lib.Seq.{drop-append-add}
+use Rattle.std.proofs.Common.{◌≡◌, ℕ, ◌+◌, ◌-◌, ◌<◌, ◌≤◌, cond, eqb, false, List, [], ◌∷◌, ◌++◌, map, length, get_or, take, drop, set, sym, refl, ap, ◌∙◌, ap₂, arith}
+use Rattle.std.proofs.Math.Seq.{drop-append-add}
 use Rattle.std.proofs.lemmas.List.{append_assoc, drop-drop, drop_more, length-append, length-map, length_push, length-take-le, map_more, set-append_right, set_at, take-append-drop, take_at}
-use Rattle.std.proofs.lemmas.Bool.{cond_both, cond-true, cond-false, eq-eqb, ne_eqb}
+use Rattle.std.proofs.lemmas.Bool.{cond_both, cond-false}
 use Rattle.pooling.specs.Pooling.{laid_at, written}
 
 module _ {X : Type 0} where
@@ -83,26 +83,13 @@ laid_thrice xs ys zs before first second third a b one two room p q r =
 pub one_at_most : {X : Type 0} (a b : ℕ) (y : X) → length (cond (eqb a b) [] (y ∷ [])) ≤ 1
 one_at_most a b y = cond_both (eqb a b) [] (y ∷ []) (λ ys. length ys ≤ 1) (λ _. omega arith) (λ _. omega arith)
 
-module _ {X : Type 0} (a b at : ℕ) (y : X) where
-  abbrev unless_equal : List X
-  unless_equal = cond (eqb a b) [] (y ∷ [])
-
-  pub none_counted : a ≡ b → at ≡ at + length unless_equal
-  none_counted e = omega (arith, ap length (cond-true (eqb a b) [] (y ∷ []) (eq-eqb a b e)))
-
-  pub none_laid : (ms : List X) → a ≡ b → ms ≡ laid_at at unless_equal ms
-  none_laid ms e = laid_none at ms ∙ ap (λ ys. laid_at at ys ms) (sym (cond-true (eqb a b) [] (y ∷ []) (eq-eqb a b e)))
-
-  pub one_counted : (a ≡ b → ⊥) → at + 1 ≡ at + length unless_equal
-  one_counted n = omega (arith, ap length (cond-false (eqb a b) [] (y ∷ []) (ne_eqb a b n)))
-
-  pub one_laid : (ms : List X) → (a ≡ b → ⊥) → at < length ms → set ms at y ≡ laid_at at unless_equal ms
-  one_laid ms n room =
-      ap₂ (λ zs (k : ℕ). set zs k y) (laid_none at ms) none ∙ laid_push at [] ms y (omega arith)
-      ∙ ap (λ ys. laid_at at ys ms) (sym (cond-false (eqb a b) [] (y ∷ []) (ne_eqb a b n)))
-    where
-      none : at ≡ at + 0
-      none = omega arith
+pub one_laid : {X : Type 0} (a b at : ℕ) (y : X) (ms : List X) → eqb a b ≡ false → at < length ms → set ms at y ≡ laid_at at (cond (eqb a b) [] (y ∷ [])) ms
+one_laid a b at y ms apart room =
+    ap₂ (λ zs (k : ℕ). set zs k y) (laid_none at ms) none ∙ laid_push at [] ms y (omega arith)
+    ∙ ap (λ ys. laid_at at ys ms) (sym (cond-false (eqb a b) [] (y ∷ []) apart))
+  where
+    none : at ≡ at + 0
+    none = omega arith
 
 -- one more of xs, seen by f, laid into a memory that was `before`
 pub laid_more : {X Y : Type 0} (f : X → Y) (xs : List X) (before ms : List Y) (at i : ℕ) (x : X) (y : Y) → i < length xs → at + i < length before → x ≡ get_or xs i x → y ≡ f x

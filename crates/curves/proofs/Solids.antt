@@ -1,21 +1,12 @@
 -- Two neighbouring runs of pieces, pooled where the second is no slower, hold together.
 use Rattle.std.proofs.Common.{◌≡◌, ℕ, zero, suc, ◌+◌, ◌-◌, ◌*◌, ◌<◌, ◌≤◌, List, [], ◌∷◌, ◌++◌, length, take, drop, sym, ap, ◌∙◌, inl, inr, mul-le-mul_right, le_of_mul-le-mul_right, arith}
 use mathlib.Core.List.{reverse-append}
+use Rattle.std.proofs.Math.Seq.{take-append-add}
 use Rattle.std.proofs.lemmas.List.{take-append-drop, take-append-le}
 use Rattle.std.proofs.lemmas.Bool.{cases_lt}
 use Rattle.arith.specs.Rivals.{Piece, pooled, NoFaster, Direction, falling, rising, along, Solid}
 use Rattle.arith.specs.Sums.{total}
 use Rattle.arith.proofs.Sums.{total_append, total_reverse}
-
-take_past : {X : Type 0} (xs ys : List X) (m : ℕ) → take (length xs + m) (xs ++ ys) ≡ xs ++ take m ys
-take_past [] ys m = ap (λ (k : ℕ). take k ys) none
-  where
-    none : 0 + m ≡ m
-    none = omega arith
-take_past (x ∷ xs) ys m = ap (λ (k : ℕ). take k (x ∷ xs ++ ys)) more ∙ ap (λ l. x ∷ l) (take_past xs ys m)
-  where
-    more : suc (length xs) + m ≡ suc (length xs + m)
-    more = omega arith
 
 -- a front of the first run is no faster than both: d / t ≤ a / s ≤ b / u
 front_slow : (d t a s b u : ℕ) → 0 < s → d * s ≤ a * t → a * u ≤ b * s → d * (s + u) ≤ (a + b) * t
@@ -42,7 +33,7 @@ solid_append xs ys p q sx sy slow k =
       | inr l ↦
           let m = k - length xs in
           let reach : k ≡ length xs + m = omega arith in
-          rw (reach, take_past xs ys m, total_append (λ x. x.failures) xs (take m ys), total_append (λ x. x.exposure) xs (take m ys))
+          rw (reach, take-append-add xs ys m, total_append (λ x. x.failures) xs (take m ys), total_append (λ x. x.exposure) xs (take m ys))
           (second m)
     ])
   where

@@ -1,7 +1,7 @@
 -- The table of gaps of counts gives their pieces, scores and steps.
 use Rattle.std.proofs.Common.{◌≡◌, ℕ, zero, suc, ◌+◌, ◌-◌, ◌<◌, ◌≤◌, cond, eqb, List, [], ◌∷◌, ◌++◌, map, length, get_or, take, drop, set, ◌+ℤ◌, sum_by, sym, refl, ap, ◌∙◌, subst, ap₂, arith}
 use Rattle.std.specs.List.{AllByRecursion}
-use Rattle.std.proofs.lemmas.List.{get_or-take, map-append, take_more_set, take_at, drop_at, length-append, length-drop}
+use Rattle.std.proofs.lemmas.List.{get_or-take, map-append, take_more_set, take_at, length-append, length-drop}
 use Rattle.std.proofs.lemmas.Bool.{cond-true, le-leb}
 use Rattle.arith.specs.Rivals.{Direction, falling, rising}
 use Rattle.isotonic.specs.declared.blocks.Block.{Block}
@@ -17,7 +17,6 @@ use Rattle.pooling.specs.Terms.{score_append}
 use Rattle.sources.specs.Ages.{ages}
 use Rattle.sources.specs.Gaps.{gap, gaps_from, gaps, list_memory}
 use Rattle.sources.specs.declared.gaps.Gap.{Gap}
-use Rattle.sources.proofs.Ages.{rest_stays}
 use Rattle.curves.specs.Curves.{left_blocks, right_blocks, block_step, trough_steps, steps, score}
 use Rattle.curves.specs.Fits.{step_made}
 use Rattle.curves.specs.Pieces.{row, age, gap_exposure, left_piece, right_piece, left_pieces, right_pieces, rate_of}
@@ -61,12 +60,10 @@ module _ (n f : ℕ → ℕ) (end : ℕ) where
 
   -- the gaps of k ages, listed in memory, and then the gap from the last of them
   pub table_listed : (last k : ℕ) (before ms : List Gap) (v : Gap) → k ≡ length (ages f last) → 0 < k → k < length before → ms ≡ list_memory (length (ages f last)) (gaps n f last) before
-      → v ≡ gap n f (gap_at ms (k - 1)).age.0 end → (take (k + 1) (set ms k v) ≡ table n f (ages f last) end) × (drop (k + 1) (set ms k v) ≡ drop (k + 1) before)
+      → v ≡ gap n f (gap_at ms (k - 1)).age.0 end → take (k + 1) (set ms k v) ≡ table n f (ages f last) end
   unfolding gaps
-  table_listed last k before ms v e some room memory is = (
-    take_more_set ms k v inside ∙ (λ i. first i ++ (value i ∷ [])) ∙ sym (gaps_push 0 (ages f last)),
-    rest_stays k ms before v (ap (drop k) whole ∙ drop_at (gaps_from n f 0 (ages f last)) _ k (gaps_length 0 (ages f last) ∙ sym e) ∙ ap (λ (j : ℕ). drop j before) (sym e)),
-  )
+  table_listed last k before ms v e some room memory is =
+      take_more_set ms k v inside ∙ (λ i. first i ++ (value i ∷ [])) ∙ sym (gaps_push 0 (ages f last))
     where
       whole : ms ≡ gaps_from n f 0 (ages f last) ++ drop (length (ages f last)) before
       whole = memory ∙ cond-true _ _ _ (le-leb (length (ages f last)) (length before) (omega arith))

@@ -5,3 +5,4 @@ pub mod Faults
 pub mod Theorems
 pub mod Tables
 pub mod Fits
+pub mod Splits

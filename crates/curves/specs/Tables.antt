@@ -1,9 +1,11 @@
 -- The table of gaps that a fit works on. Its rows are the gaps 1 to k, and last gap k + 1, from X k to the oldest age. Pieces and rows are counted from 0.
-use Rattle.std.specs.Prelude.{ℕ, zero, suc, ◌+◌, ◌-◌, cond, List, [], ◌∷◌, ◌++◌, map, reverse, ℤ, ◌+ℤ◌, ◌==◌, slice_index_or}
+use Rattle.std.specs.Prelude.{ℕ, zero, suc, ◌+◌, ◌-◌, ◌≤◌, cond, List, [], ◌∷◌, ◌++◌, map, reverse, ℤ, ◌+ℤ◌, ◌==◌, sum_by, slice_index_or}
 use Rattle.isotonic.specs.declared.blocks.Block.{Block}
+use Rattle.isotonic.specs.Laws.{limit}
 use Rattle.isotonic.specs.MaxMin.{on_element, rising_blocks, falling_blocks}
-use Rattle.isotonic.specs.Stacks.{stack_in, mirrored}
-use Rattle.pooling.specs.Kinds.{rate_part, rate_leq, rate_joined}
+use Rattle.isotonic.specs.Stacks.{stack_in, stacked, mirrored}
+use Rattle.isotonic.specs.Theorems.{turned}
+use Rattle.pooling.specs.Kinds.{rate_part, rate_leq, rate_joined, rate_bulk}
 use Rattle.pooling.specs.Scores.{rate_score, blocks_score}
 use Rattle.pooling.specs.Turns.{unturned}
 use Rattle.pooling.specs.declared.kinds.Turned.{Turned}
@@ -94,6 +96,17 @@ piece_at gs k Right i = right_at gs (k - suc i)
 -- the first m of them
 abbrev pub pile : List Gap → ℕ → Side → ℕ → List Rate
 pile gs k side m = row (piece_at gs k side) 0 m
+
+-- their stack, the top first, and its score
+abbrev pub side_stack : List Gap → ℕ → Side → ℕ → List (Block Rate)
+side_stack gs k side m = stacked (turned rate_leq) rate_joined (pile gs k side m)
+
+abbrev pub stack_score : List Gap → ℕ → Side → ℕ → ℤ
+stack_score gs k side m = blocks_score rate_score (side_stack gs k side m)
+
+-- the pieces of both sides, all of them, stay within the bulk limit
+abbrev pub AllLight : List Gap → ℕ → Type 0
+AllLight gs k = (sum_by rate_bulk (row (left_at gs) 0 k) ≤ limit) × (sum_by rate_bulk (row (right_at gs) 0 k) ≤ limit)
 
 -- the stack in the first places of a memory, the top first, with its elements unturned
 abbrev pub unturn : Block (Turned Rate) → Block Rate

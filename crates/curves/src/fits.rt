@@ -1,21 +1,19 @@
 // The curve call, for every source.
-ghost use Rattle.std.specs.Prelude.{◌≡◌, ◌+◌, ◌-◌, ◌<◌, ◌≤◌, length, take, drop, IfOk, sum_by};
+ghost use Rattle.std.specs.Prelude.{◌≡◌, ◌+◌, ◌-◌, ◌<◌, ◌≤◌, length, take, drop, IfOk};
 ghost use Rattle.units.specs.Refusals.{answer};
-ghost use Rattle.isotonic.specs.Laws.{limit};
-ghost use Rattle.pooling.specs.Kinds.{rate_bulk};
 ghost use Rattle.pooling.specs.Pooling.{answered};
 ghost use Rattle.sources.specs.Ages.{ages, oldest};
 ghost use Rattle.curves.specs.Curves.{aside, fit_refusal, last_counted};
 ghost use Rattle.curves.specs.Faults.{Fault};
 ghost use Rattle.curves.specs.Fits.{fit_result, fit_steps, fit_work, shown, work_places};
-ghost use Rattle.curves.specs.Pieces.{row};
-ghost use Rattle.curves.specs.Tables.{left_at, right_at, table, table_turning};
+ghost use Rattle.curves.specs.Tables.{AllLight, table, table_turning};
 ghost use Rattle.curves.specs.declared.shapes.Shape.TheVariants.{UShaped};
 
 use crate::shapes::Shape;
+use crate::split::Split;
 use crate::step::Step;
-use crate::turning::find_turn;
-use crate::writing::write_curve;
+use crate::table::Table;
+use crate::turning::LightTable;
 use pooling::{Block, Rate, Turned};
 use sources::{
     Gap, Source, count_failure_ages, failures_up_to, gap_between, list_gaps, total_time_on_test,
@@ -23,7 +21,7 @@ use sources::{
 use units::{Age, Exposure, Refusal};
 
 // A fitted curve; its steps stand in the step memory.
-#[derive(Clone, Copy)]
+#[derive(Clone, Copy, PartialEq, Eq, Default, Debug)]
 pub struct Fit {
     // The number of steps.
     pub steps: usize,
@@ -97,7 +95,7 @@ fn list_table<S: Source>(source: &S, last: Age, count: usize, gaps: &mut [Gap])
     ensures table { take (count + 1) gaps.new ≡ table (S.counts source.now).watched (S.counts source.now).failed (ages (S.counts source.now).failed last.0) (oldest (S.counts source.now).watched) }
     ensures rest { drop (count + 1) gaps.new ≡ drop (count + 1) gaps.old }
 {
-    let _ = list_gaps(source, last, gaps);
+    list_gaps(source, last, gaps).unwrap();
     let from = gaps[count - 1].age;
     gaps[count] = gap_between(source, from, source.oldest_age());
 }
@@ -105,21 +103,19 @@ fn list_table<S: Source>(source: &S, last: Age, count: usize, gaps: &mut [Gap])
 // The left pieces before the turning gap of the shape.
 fn turn_of(
     shape: Shape,
-    gaps: &[Gap],
-    count: usize,
+    table: &Table,
     blocks: &mut [Block<Turned<Rate>>],
     scores: &mut [i64],
 ) -> usize
-    requires table { count < length gaps.now }
-    requires room { (count ≤ length blocks.old) × (count < length scores.old) }
-    requires light { shape ≡ UShaped → (sum_by rate_bulk (row (left_at gaps.now) 0 count) ≤ limit) × (sum_by rate_bulk (row (right_at gaps.now) 0 count) ≤ limit) }
-    ensures turn { result + 1 ≡ table_turning gaps.now count shape }
-    ensures rest { (drop (count + 1) scores.new ≡ drop (count + 1) scores.old) × (drop count blocks.new ≡ drop count blocks.old) }
+    requires room { (table.now.count ≤ length blocks.old) × (table.now.count < length scores.old) }
+    requires light { shape ≡ UShaped → AllLight table.now.gaps.now table.now.count }
+    ensures turn { result + 1 ≡ table_turning table.now.gaps.now table.now.count shape }
+    ensures rest { (drop (table.now.count + 1) scores.new ≡ drop (table.now.count + 1) scores.old) × (drop table.now.count blocks.new ≡ drop table.now.count blocks.old) }
 {
     match shape {
-        Shape::Falling => count,
+        Shape::Falling => table.count,
         Shape::Rising => 0,
-        Shape::UShaped => find_turn(gaps, count, blocks, scores),
+        Shape::UShaped => LightTable { table: *table }.find_turn(blocks, scores),
     }
 }
 
@@ -146,8 +142,10 @@ pub fn fit_curve<S: Source>(
         scores,
     } = work;
     list_table(source, last, count, gaps);
-    let turn = turn_of(shape, gaps, count, blocks, scores);
-    let curve = write_curve(gaps, count, turn, blocks, steps);
+    let table = Table { gaps, count };
+    let turn = turn_of(shape, &table, blocks, scores);
+    let split = Split { table, turn };
+    let curve = split.write(blocks, steps);
     Ok(Fit {
         steps: curve.steps,
         turning_gap: turn + 1,

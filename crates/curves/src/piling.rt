@@ -1,59 +1,14 @@
 // The pieces of a side, put on a stack that keeps their rates falling towards the turning gap.
-ghost use Rattle.std.specs.Prelude.{◌≡◌, ◌+◌, ◌<◌, ◌≤◌, length, drop, Some};
-ghost use Rattle.isotonic.specs.Stacks.{lone, pushed, top_of};
-ghost use Rattle.isotonic.specs.Theorems.{turned};
-ghost use Rattle.pooling.specs.Kinds.{rate_leq, rate_joined};
-ghost use Rattle.curves.specs.Pieces.{rate_of};
-ghost use Rattle.curves.specs.Tables.{piece_at, piled, unturn};
+ghost use Rattle.std.specs.Prelude.{◌≡◌, ◌+◌, ◌<◌, ◌≤◌, length, drop, ◌+ℤ◌};
+ghost use Rattle.pooling.specs.Scores.{rate_score};
+ghost use Rattle.curves.specs.Tables.{piled, side_stack, stack_score, unturn};
 
 use crate::side::Side;
-use pooling::{Block, Poolable, Rate, Stack, Turned};
-use sources::Gap;
-use units::Exposure;
-
-// The rate of failures over exposure; no piece of a source has an exposure of 0.
-fn rate_of(failures: u32, exposure: Exposure) -> Rate
-    ensures { result ≡ rate_of (record { failures = failures; exposure = exposure.0 }) }
-{
-    Rate {
-        failures,
-        exposure: Exposure(exposure.0.max(1)),
-    }
-}
-
-// A piece of a side, by its number in the order in which the pieces are stacked: on the right the last comes first.
-pub(crate) fn piece(gaps: &[Gap], count: usize, side: Side, i: usize) -> Rate
-    requires { (i < count) × (count < length gaps.now) }
-    ensures { result ≡ piece_at gaps.now count side i }
-{
-    match side {
-        Side::Left => rate_of(gaps[i].failures, gaps[i].exposure),
-        Side::Right => {
-            let right = count - 1 - i;
-            rate_of(gaps[right].failures, gaps[right + 1].exposure)
-        }
-    }
-}
-
-// Puts a piece on a stack with a place left, and answers the block at the top, which it is in.
-pub(crate) fn push_piece(stack: &mut Stack<Turned<Rate>>, number: usize, piece: Rate) -> Block<Rate>
-    requires room { stack.old.height < length stack.old.blocks.now }
-    ensures pile { piled stack.new.blocks.now stack.new.height ≡ pushed (turned rate_leq) rate_joined (piled stack.old.blocks.now stack.old.height) (lone number piece) }
-    ensures top { top_of (piled stack.new.blocks.now stack.new.height) ≡ Some result }
-    ensures low { stack.new.height ≤ stack.old.height + 1 }
-    ensures rest { drop (stack.old.height + 1) stack.new.blocks.now ≡ drop (stack.old.height + 1) stack.old.blocks.now }
-    ensures long { length stack.new.blocks.now ≡ length stack.old.blocks.now }
-    ensures named { stack.new.blocks.ghost_name ≡ stack.old.blocks.ghost_name }
-{
-    // There is room, so that the push is not refused, and a stack with a piece has a top.
-    let _ = stack.push(number, Turned(piece));
-    match stack.top() {
-        Some(block) => unturned(block),
-        None => unreachable(),
-    }
-}
+use crate::table::Table;
+use pooling::{Block, Rate, Stack, Turned};
 
 // A block with its element in its own order.
+// A function, since no `From` between two types of other crates can be written here.
 pub(crate) fn unturned(block: Block<Turned<Rate>>) -> Block<Rate>
     ensures { result ≡ unturn block }
 {
@@ -61,5 +16,30 @@ pub(crate) fn unturned(block: Block<Turned<Rate>>) -> Block<Rate>
         first: block.first,
         last: block.last,
         element: block.element.0,
+    }
+}
+
+impl Table<'_> {
+    // Puts the next piece of a side on the stack of those before it. Answers the block at the top, which the piece is in.
+    // Each pass counts its pieces and calls this: in a closure that writes the row of scores, nothing bounds what the row holds, so no sum of scores is proved.
+    pub(crate) fn push_piece(
+        &self,
+        side: Side,
+        i: usize,
+        stack: &mut Stack<Turned<Rate>>,
+    ) -> Block<Rate>
+        requires within { i < self.now.count }
+        requires room { (stack.old.height ≤ i) × (i < length stack.old.blocks.now) }
+        requires pile { piled stack.old.blocks.now stack.old.height ≡ side_stack self.now.gaps.now self.now.count side i }
+        ensures pile { piled stack.new.blocks.now stack.new.height ≡ side_stack self.now.gaps.now self.now.count side (i + 1) }
+        ensures places { (result.first ≤ result.last) × (result.last ≡ i) }
+        ensures score { stack_score self.now.gaps.now self.now.count side (i + 1) ≡ stack_score self.now.gaps.now self.now.count side result.first +ℤ rate_score result.element }
+        ensures low { stack.new.height ≤ i + 1 }
+        ensures rest { drop (i + 1) stack.new.blocks.now ≡ drop (i + 1) stack.old.blocks.now }
+        ensures long { length stack.new.blocks.now ≡ length stack.old.blocks.now }
+        ensures named { stack.new.blocks.ghost_name ≡ stack.old.blocks.ghost_name }
+    {
+        stack.push(i, Turned(self.piece(side, i))).unwrap();
+        unturned(stack.top().unwrap())
     }
 }

@@ -1,4 +1,4 @@
-use Rattle.std.proofs.Common.{◌≡◌, ℕ, ◌+◌, ◌<◌, min, List, map, length, take, None, Ok, Option, sym, ap, ◌∙◌, arith, w64, SFits, rules}
+use Rattle.std.proofs.Common.{◌≡◌, ℕ, ◌+◌, List, map, length, take, None, Ok, Option, sym, ap, ◌∙◌, arith, w64, SFits, rules}
 use Rattle.std.proofs.lemmas.List.{length-map}
 use Rattle.std.proofs.lemmas.Int.{to_z-of_z}
 use Rattle.units.specs.Refusals.{Refused}
@@ -11,8 +11,7 @@ use Rattle.curves.specs.Curves.{counted_ages, curve, fit_refusal, last_counted}
 use Rattle.curves.specs.Fits.{fit_made, step_made, work_places, due}
 use Rattle.curves.specs.Tables.{table}
 use Rattle.curves.specs.declared.step.Step.{Step}
-use Rattle.sources.proofs.Ages.{ages_few}
-use Rattle.curves.proofs.Fitted.{fit_accepted, Given, given, all_light, row_kept, faultless}
+use Rattle.curves.proofs.Fitted.{Given, given, all_light, row_kept, faultless}
 use Rattle.curves.proofs.Laid.{drop_later}
 use Rattle.curves.proofs.Listed.{ages_total}
 use Rattle.curves.proofs.fits.fit_curve.Given as over
@@ -30,32 +29,17 @@ counted g c = c.count_failure_ages-count.ensures ∙ ap (λ (t : ℕ). length (a
 none : (g : over.Over) (c : In_ok-check_room g) → fit_refusal c.count_failure_ages-count.result (length c.args.steps.now) c.places.result ≡ None
 none g c = (accepted (fit_refusal c.count_failure_ages-count.result (length c.args.steps.now) c.places.result) tt tt c.in_ok-check_room.ensures).0
 
-room : (g : over.Over) (c : In_ok-check_room g) → (0 < c.count_failure_ages-count.result) × (c.count_failure_ages-count.result < min (length c.args.steps.now) (work_places c.args.work))
-room g c =
-    let e = fit_accepted c.count_failure_ages-count.result (length c.args.steps.now) c.places.result (none g c) in
-    (e.0, omega (arith, e.1, c.places.ensures))
-
-pub list_table-requires : goal.list_table-requires
-list_table-requires g c =
-    let r = room g (goal.at.list_table-requires g c).In_ok-check_room in
-    record { count = c.count_failure_ages-count.ensures; some = r.0; room = omega (arith, r.1) }
-
 -- the table that was listed
 listed : (g : over.Over) (c : After-list_table g) → let s = meant g c.args.source.now in take (c.count_failure_ages-count.result + 1) c.list_table.new.gaps ≡ table s.watched s.failed (counted_ages s c.args.shape) (oldest s.watched)
 listed g c =
     let s = meant g c.args.source.now in
     c.list_table.ensures.table ∙ ap (λ (t : ℕ). table s.watched s.failed (ages s.failed t) (oldest s.watched)) c.last_counted_age-last.ensures
 
-pub turn_of-turn-requires : goal.turn_of-turn-requires
-turn_of-turn-requires g c =
-    let p = (goal.at.turn_of-turn-requires g c).In_ok-check_room in
-    let r = room g p in
-    let s = meant g c.args.source.now in
-    record {
-      table = omega (arith, r.1);
-      room = (omega (arith, r.1), omega (arith, r.1));
-      light = all_light s c.args.shape (g.S.Source.laws c.args.source.now) c.list_table.new.gaps c.count_failure_ages-count.result (counted g p) (listed g (goal.at.turn_of-turn-requires g c).After-list_table);
-    }
+pub turn_of-turn-requires-clause-light : goal.turn_of-turn-requires-clause-light
+turn_of-turn-requires-clause-light g c =
+    let p = (goal.at.turn_of-turn-requires-clause-light g c).In_ok-check_room in
+    all_light (meant g c.args.source.now) c.args.shape (g.S.Source.laws c.args.source.now) c.list_table.new.gaps c.count_failure_ages-count.result
+    (counted g p) (listed g (goal.at.turn_of-turn-requires-clause-light g c).After-list_table)
 
 -- what the turning gap gives
 turned : (g : over.Over) (c : After-turn_of-turn g) → let s = meant g c.args.source.now in c.count_failure_ages-count.result ≡ length (counted_ages s c.args.shape)
@@ -63,24 +47,11 @@ turned : (g : over.Over) (c : After-turn_of-turn g) → let s = meant g c.args.s
     → Given s c.args.shape (g.S.Source.laws c.args.source.now) c.list_table.new.gaps c.count_failure_ages-count.result c.turn_of-turn.result
 turned g c e l = given (meant g c.args.source.now) c.args.shape (g.S.Source.laws c.args.source.now) c.list_table.new.gaps c.count_failure_ages-count.result c.turn_of-turn.result e l c.turn_of-turn.ensures.turn
 
-pub write_curve-curve-requires : goal.write_curve-curve-requires
-write_curve-curve-requires g c =
-    let p = (goal.at.write_curve-curve-requires g c).In_ok-check_room in
-    let r = room g p in
-    let t = turned g (goal.at.write_curve-curve-requires g c).After-turn_of-turn (counted g p) (listed g (goal.at.write_curve-curve-requires g c).After-list_table) in
-    record {
-      within = t.within;
-      table = omega (arith, r.1);
-      room = (omega (arith, r.1), omega (arith, r.1));
-      light = (t.left_light, t.right_light);
-    }
-
-pub overflow_add-result : goal.overflow_add-result
-overflow_add-result g c =
-    let p = (goal.at.overflow_add-result g c).In_ok-check_room in
-    let s = c.args.source.now in
-    let t = turned g (goal.at.overflow_add-result g c).After-turn_of-turn (counted g p) (listed g (goal.at.overflow_add-result g c).After-list_table) in
-    omega (arith, t.within, c.count_failure_ages-count.ensures, ages_few (meant g s).failed c.last_counted_age-last.result.0, (g.S.Source.laws s).few c.last_counted_age-last.result.0)
+pub invariant_of-split : goal.invariant_of-split
+invariant_of-split g c =
+    let p = (goal.at.invariant_of-split g c).In_ok-check_room in
+    let t = turned g (goal.at.invariant_of-split g c).After-turn_of-turn (counted g p) (listed g (goal.at.invariant_of-split g c).After-list_table) in
+    record { within = t.within; light = t.light }
 
 pub returns : goal.returns
 returns g c =
@@ -91,11 +62,11 @@ returns g c =
     let before = c.args.steps.now in
     let works = work_places c.args.work in
     let t = turned g (goal.at.returns g c).After-turn_of-turn (counted g p) (listed g (goal.at.returns g c).After-list_table) in
-    let wrote = c.write_curve-curve.ensures in
+    let wrote = c.write-curve.ensures in
     let free : due s shape (length before) works ≡ None = (λ i. fit_refusal (sym (counted g p) i) (length before) (sym c.places.ensures i)) ∙ none g p in
-    let fits : SFits w64 c.write_curve-curve.result.score = search rules in
+    let fits : SFits w64 c.write-curve.result.score = search rules in
     let steps = wrote.count ∙ ap length t.steps ∙ length-map (curve s shape).steps step_made in
-    let score = to_z-of_z w64 c.write_curve-curve.result.score fits ∙ wrote.score ∙ t.score in
+    let score = to_z-of_z w64 c.write-curve.result.score fits ∙ wrote.score ∙ t.score in
     let total = c.failures_up_to.ensures ∙ ap (upto s.failed) c.last_counted_age-last.ensures ∙ sym (ages_total s.failed (last_counted s shape)) in
     let fit : _ ≡ fit_made (curve s shape) = λ i. record { steps = steps i; turning_gap = t.gap i; score = score i; counted = total i; set_aside = c.failures_aside.ensures i; time_on_test = record { 0 = c.total_time_on_test.ensures i } } in
     let memory = wrote.steps ∙ ap (λ (ss : List Step). written ss before) t.steps in
@@ -103,7 +74,7 @@ returns g c =
       answer = ap Ok fit ∙ ap (λ (q : Option Refused). answered q (fit_made (curve s shape))) (sym free);
       steps = memory ∙ ap (λ (q : Option Refused). unless_refused q before (written (map step_made (curve s shape).steps) before)) (sym free);
       gaps = row_kept s shape (length before) works k c.args.work.gaps.now c.list_table.new.gaps free (counted g p) c.list_table.ensures.rest;
-      blocks = row_kept s shape (length before) works k c.args.work.blocks.now c.write_curve-curve.new.blocks free (counted g p) (drop_later k (k + 1) _ _ (omega arith) (wrote.rest ∙ c.turn_of-turn.ensures.rest.1));
+      blocks = row_kept s shape (length before) works k c.args.work.blocks.now c.write-curve.new.blocks free (counted g p) (drop_later k (k + 1) _ _ (omega arith) (wrote.rest ∙ c.turn_of-turn.ensures.rest.1));
       scores = row_kept s shape (length before) works k c.args.work.scores.now c.turn_of-turn.new.scores free (counted g p) c.turn_of-turn.ensures.rest.0;
       faultless = faultless s shape (g.S.Source.laws c.args.source.now) _ before _ fit memory;
     }

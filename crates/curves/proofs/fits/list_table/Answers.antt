@@ -5,10 +5,9 @@ use Rattle.curves.specs.Tables.{gap_at}
 use Rattle.curves.proofs.Tabled.{table_listed}
 use Rattle.curves.proofs.fits.list_table.Goals as goal
 
-pub returns : goal.returns
-returns g c =
+pub returns-clause-table : goal.returns-clause-table
+returns-clause-table g c =
     let n = (g.S.Source.counts c.args.source.now).watched in
     let f = (g.S.Source.counts c.args.source.now).failed in
-    let listed = table_listed n f (oldest n) c.args.last.0 c.args.count c.args.gaps.now c.list_gaps.new.memory c.gap_between.result c.requires.count c.requires.some c.requires.room c.list_gaps.ensures.memory
-    (c.gap_between.ensures ∙ ap (λ (x : ℕ). gap n f (gap_at c.list_gaps.new.memory (c.args.count - 1)).age.0 x) c.oldest_age.ensures) in
-    record { table = listed.0; rest = listed.1 }
+    table_listed n f (oldest n) c.args.last.0 c.args.count c.args.gaps.now c.list_gaps.new.memory c.gap_between.result c.requires.count c.requires.some c.requires.room c.list_gaps.ensures.memory
+    (c.gap_between.ensures ∙ ap (λ (x : ℕ). gap n f (gap_at c.list_gaps.new.memory (c.args.count - 1)).age.0 x) c.oldest_age.ensures)
