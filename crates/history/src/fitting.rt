@@ -13,7 +13,7 @@ use curves::{Fit, Shape, Step, Work, fit_curve};
 use lives::{Place, SealedStudy};
 use units::Refusal;
 
-// Opens a study over the memory, does the calls in order, seals it, and fits a curve to it. Answers the study; what the fit answers is written to `fit`.
+// Opens a study over the memory, does the calls in order, seals it, and fits a curve to it. Answers the study, and what the fit answers.
 // The curve is that of the unmarked lives of the plain list of the calls, and has no fault against them.
 pub fn fit_after<'a>(
     memory: &'a mut [Place],
@@ -21,19 +21,19 @@ pub fn fit_after<'a>(
     shape: Shape,
     steps: &mut [Step],
     work: Work,
-    fit: &mut Result<Fit, Refusal>,
-) -> SealedStudy<'a>
-    ensures reached { Reached (length memory.old) (map plain_call calls.now) (sealed result) }
-    ensures kept { sealed result ≡ kept (map plain memory.old) (map plain_call calls.now) }
-    ensures named { result.memory.ghost_name ≡ memory.entry.ghost_name }
-    ensures answer { answer fit.new ≡ fit_result (counts_after (length memory.old) (map plain_call calls.now)) shape (length steps.old) (work_places work.entry) }
+) -> (SealedStudy<'a>, Result<Fit, Refusal>)
+    ensures reached { Reached (length memory.old) (map plain_call calls.now) (sealed result.0) }
+    ensures kept { sealed result.0 ≡ kept (map plain memory.old) (map plain_call calls.now) }
+    ensures named { result.0.memory.ghost_name ≡ memory.entry.ghost_name }
+    ensures answer { answer result.1 ≡ fit_result (counts_after (length memory.old) (map plain_call calls.now)) shape (length steps.old) (work_places work.entry) }
     ensures steps { steps.new ≡ fit_steps (counts_after (length memory.old) (map plain_call calls.now)) shape (length steps.old) (work_places work.entry) steps.old }
     ensures gaps { work.exit.0.now ≡ fit_work (counts_after (length memory.old) (map plain_call calls.now)) shape (length steps.old) (work_places work.entry) work.entry.gaps.now work.exit.0.now }
     ensures blocks { work.exit.1.0.now ≡ fit_work (counts_after (length memory.old) (map plain_call calls.now)) shape (length steps.old) (work_places work.entry) work.entry.blocks.now work.exit.1.0.now }
     ensures scores { work.exit.1.1.0.now ≡ fit_work (counts_after (length memory.old) (map plain_call calls.now)) shape (length steps.old) (work_places work.entry) work.entry.scores.now work.exit.1.1.0.now }
-    ensures faultless { IfOk fit.new (λ a. Fault (counts_after (length memory.old) (map plain_call calls.now)) shape (shown a steps.new) → ⊥) }
+    ensures faultless { IfOk result.1 (λ a. Fault (counts_after (length memory.old) (map plain_call calls.now)) shape (shown a steps.new) → ⊥) }
 {
     let study = sealed_after(memory, calls);
+    // Taken apart and put together: of rows that are handed on whole nothing is known afterwards.
     let Work {
         gaps,
         blocks,
@@ -44,6 +44,6 @@ pub fn fit_after<'a>(
         blocks,
         scores,
     };
-    *fit = fit_curve(&study, shape, steps, rows);
-    study
+    let fit = fit_curve(&study, shape, steps, rows);
+    (study, fit)
 }

@@ -12,7 +12,7 @@ work_moves shape room works before after same kept = kept ∙ ap (λ (s : Counts
 pub returns : goal.returns
 returns c =
     let study = c.sealed_after-study.ensures in
-    let fit = c.fit_curve.ensures in
+    let fit = c.fit_curve-fit.ensures in
     let same = study.stands.counts in
     let shape = c.args.shape in
     let room = length c.args.steps.now in
@@ -26,5 +26,5 @@ returns c =
       gaps = work_moves shape room works c.args.work.gaps.now _ same fit.gaps;
       blocks = work_moves shape room works c.args.work.blocks.now _ same fit.blocks;
       scores = work_moves shape room works c.args.work.scores.now _ same fit.scores;
-      faultless = subst (λ (s : Counts). IfOk c.fit_curve.result (λ a. Fault s shape (shown a c.fit_curve.new.steps) → ⊥)) same fit.faultless;
+      faultless = subst (λ (s : Counts). IfOk c.fit_curve-fit.result (λ a. Fault s shape (shown a c.fit_curve-fit.new.steps) → ⊥)) same fit.faultless;
     }
