@@ -1,5 +1,6 @@
 -- The number that stands for a fit, and that its parts are small.
-use Rattle.std.proofs.Common.{◌≡◌, ℕ, ◌≤◌, List, map, length, drop, Ok, Option, Result, ap, ◌∙◌, arith}
+use Rattle.std.proofs.Common.{◌≡◌, ℕ, ◌≤◌, Bool, cond, eqb, ltb, List, map, length, drop, Some, None, Ok, Option, Result, unwrap_or, sym, ap, ◌∙◌, arith}
+use Rattle.std.proofs.lemmas.Bool.{le-ltb}
 use Rattle.std.proofs.lemmas.List.{length-append, length-map}
 use Rattle.units.specs.Refusals.{Refused}
 use Rattle.pooling.specs.Pooling.{unless_refused, written}
@@ -12,7 +13,8 @@ use Rattle.curves.specs.declared.fits.Fit.{Fit}
 use Rattle.curves.specs.declared.shapes.Shape.TheVariants.{UShaped}
 use Rattle.curves.specs.declared.step.Step.{Step}
 use Rattle.curves.proofs.Best.{best_allowed}
-use Rattle.exports.specs.Codes.{fit_code, most_gaps, ushaped_code}
+use Rattle.exports.proofs.Repeated.{last_or_zero, or_false}
+use Rattle.exports.specs.Codes.{code_after, fit_code, most_ages, most_gaps, ushaped_code}
 
 -- with room for the most gaps, a fit gives the number
 pub coded : (c : Counts) {r : Result Fit Refused} (steps works : ℕ) → r ≡ fit_result c UShaped steps works → steps ≡ most_gaps → works ≡ most_gaps → fit_code r ≡ ushaped_code c
@@ -34,3 +36,7 @@ module _ (c : Counts) (a : Fit) (works : ℕ) where
       let ys = map step_made (curve c UShaped).steps in
       let wrote : after ≡ written ys before = memory ∙ ap (λ (q : Option Refused). unless_refused q before (written ys before)) made.0 in
       omega (arith, ap (λ (f : Fit). f.steps) made.1, length-map (curve c UShaped).steps step_made, length-append ys (drop (length ys) before), ap length wrote, same)
+
+-- the number after so many fits, of which none answers anything for no time
+pub repeated_code : (n times : ℕ) (c : Counts) (last : Option ℕ) → n ≤ most_ages → last ≡ cond (eqb times 0) None (Some (ushaped_code c)) → unwrap_or last 0 ≡ code_after n times c
+repeated_code n times c last few e = last_or_zero times (ushaped_code c) last e ∙ ap (λ (t : Bool). cond t 0 (ushaped_code c)) (sym (or_false (eqb times 0) (ltb most_ages n) (le-ltb most_ages n few)))

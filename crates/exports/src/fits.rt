@@ -1,17 +1,18 @@
 // U-shaped fits of bench runs and of studies, for callers in C.
-ghost use Rattle.std.specs.Prelude.{◌≡◌, ◌≤◌, map, length, take, if◌then◌else◌, nat_eq};
+ghost use Rattle.std.specs.Prelude.{◌≡◌, ◌≤◌, map, length};
 ghost use Rattle.units.specs.Hours.{age_ticks};
 ghost use Rattle.lives.specs.Studies.{held, sealed};
 ghost use Rattle.sources.specs.Studies.{study_counts};
 ghost use Rattle.history.specs.Runs.{calls_after, counts_after};
-ghost use Rattle.exports.specs.Codes.{bench_code, life_entered, lives_code, most_gaps, ushaped_code};
+ghost use Rattle.exports.specs.Codes.{bench_code, life_entered, lives_code, ushaped_code};
 
+use crate::repeating::repeated;
 use curves::{Shape, Step, Work, fit_curve};
 use isotonic::Block;
 use lives::{OpenStudy, Place, SealedStudy, UncheckedLife};
 use pooling::{Rate, Turned};
 use sources::{BenchRun, Gap, Source};
-use units::{Age, Exposure};
+use units::Age;
 
 // The most ages, and the most gaps: one more.
 const MOST_AGES: usize = 1024;
@@ -21,80 +22,50 @@ const MOST_GAPS: usize = 1025;
 // A turning gap counts so much in the number that is answered.
 const GAP_UNIT: u64 = 65_536;
 
-// What memory is filled with before it is lent.
-const NO_STEP: Step = Step {
-    from: Age(0),
-    to: Age(0),
-    failures: 0,
-    exposure: Exposure(0),
-};
+// The memory that a fit of the most ages is lent.
+#[derive(Drop)]
+struct FitMemory {
+    steps: [Step; MOST_GAPS],
+    gaps: [Gap; MOST_GAPS],
+    blocks: [Block<Turned<Rate>>; MOST_GAPS],
+    scores: [i64; MOST_GAPS],
+}
 
-const NO_GAP: Gap = Gap {
-    age: Age(0),
-    failures: 0,
-    exposure: Exposure(0),
-};
+impl FitMemory {
+    fn new() -> FitMemory {
+        FitMemory {
+            steps: [Step::default(); MOST_GAPS],
+            gaps: [Gap::default(); MOST_GAPS],
+            blocks: [Block::default(); MOST_GAPS],
+            scores: [0; MOST_GAPS],
+        }
+    }
+}
 
-const NO_BLOCK: Block<Turned<Rate>> = Block {
-    first: 0,
-    last: 0,
-    element: Turned(Rate {
-        failures: 0,
-        exposure: Exposure(1),
-    }),
-};
-
-// Fits a source once, U-shaped. Answers steps + turning gap x 65,536; 0 where the fit is refused.
-fn fit_once<S: Source>(
-    source: &S,
-    steps: &mut [Step],
-    gaps: &mut [Gap],
-    blocks: &mut [Block<Turned<Rate>>],
-    scores: &mut [i64],
-) -> u64
-    requires steps { length steps.old ≡ most_gaps }
-    requires work { (length gaps.old ≡ most_gaps) × ((length blocks.old ≡ most_gaps) × (length scores.old ≡ most_gaps)) }
+// Fits a source once, U-shaped. Answers steps + turning gap x 65,536; 0 where the fit is refused, since a caller in C gets one number.
+fn fit_once<S: Source>(source: &S, memory: &mut FitMemory) -> u64
     ensures { result ≡ ushaped_code (S.counts source.now) }
 {
     let work = Work {
-        gaps,
-        blocks,
-        scores,
+        gaps: &mut memory.gaps,
+        blocks: &mut memory.blocks,
+        scores: &mut memory.scores,
     };
-    match fit_curve(source, Shape::UShaped, steps, work) {
+    match fit_curve(source, Shape::UShaped, &mut memory.steps, work) {
         Ok(fit) => fit.steps as u64 + fit.turning_gap as u64 * GAP_UNIT,
         Err(_) => 0,
     }
 }
 
-// Fits the same source so many times in the same memory. Answers as the last fit; 0 for no time.
-fn fit_times<S: Source>(
-    source: &S,
-    times: u32,
-    steps: &mut [Step],
-    gaps: &mut [Gap],
-    blocks: &mut [Block<Turned<Rate>>],
-    scores: &mut [i64],
-) -> u64
-    requires steps { length steps.old ≡ most_gaps }
-    requires work { (length gaps.old ≡ most_gaps) × ((length blocks.old ≡ most_gaps) × (length scores.old ≡ most_gaps)) }
-    ensures { result ≡ (if nat_eq times 0 then 0 else ushaped_code (S.counts source.now)) }
+// Copies ages into the first places, and answers these.
+fn copy_ages<'a>(ticks: &[u32], ages: &'a mut [Age]) -> &'a [Age]
+    requires { length ticks.now ≤ length ages.old }
+    ensures { map age_ticks result.now ≡ ticks.now }
 {
-    let mut code = 0;
-    for done in 0..times {
-        code = fit_once(source, steps, gaps, blocks, scores);
+    for (i, tick) in ticks.iter().enumerate() {
+        ages[i] = Age(*tick);
     }
-    code
-}
-
-// Copies ages into the first places.
-fn copy_ages(plain: &[u32], ages: &mut [Age])
-    requires { length plain.now ≤ length ages.old }
-    ensures { map age_ticks (take (length plain.now) ages.new) ≡ plain.now }
-{
-    for i in 0..plain.len() {
-        ages[i] = Age(plain[i]);
-    }
+    &ages[..ticks.len()]
 }
 
 // Fits a bench run so many times. Answers steps + turning gap x 65,536; 0 for no time, for more than 1,024 ages, or where the fit is refused.
@@ -104,23 +75,18 @@ pub extern "C" fn fit_repeatedly(ages: &[u32], units: u32, stop: u32, times: u32
 {
     // The arrays stand before any return: the compiler has set up large frames wrongly after one.
     let mut copied = [Age(0); MOST_AGES];
-    let mut steps = [NO_STEP; MOST_GAPS];
-    let mut gaps = [NO_GAP; MOST_GAPS];
-    let mut blocks = [NO_BLOCK; MOST_GAPS];
-    let mut scores = [0; MOST_GAPS];
+    let mut memory = FitMemory::new();
     if ages.len() > MOST_AGES {
         return 0;
     }
-    copy_ages(ages, &mut copied);
-    let bench = BenchRun::new(units, &copied[..ages.len()], Age(stop));
-    fit_times(
-        &bench,
+    let ages = copy_ages(ages, &mut copied);
+    let bench = BenchRun::new(units, ages, Age(stop));
+    repeated(
         times,
-        &mut steps,
-        &mut gaps,
-        &mut blocks,
-        &mut scores,
+        &mut memory,
+        |memory: &mut FitMemory| fit_once(&bench, memory),
     )
+    .unwrap_or(0)
 }
 
 // Enters a life for each exit age: watched from age 0 until it failed there. What is no age is refused and not entered.
@@ -154,21 +120,16 @@ pub extern "C" fn fit_lives_repeatedly(exits: &[u32], times: u32) -> u64
     ensures { result ≡ lives_code exits.now times }
 {
     // The arrays stand before any return, as above.
-    let mut memory = [Place::blank(); MOST_AGES];
-    let mut steps = [NO_STEP; MOST_GAPS];
-    let mut gaps = [NO_GAP; MOST_GAPS];
-    let mut blocks = [NO_BLOCK; MOST_GAPS];
-    let mut scores = [0; MOST_GAPS];
+    let mut places = [Place::blank(); MOST_AGES];
+    let mut memory = FitMemory::new();
     if exits.len() > MOST_AGES {
         return 0;
     }
-    let study = sealed_lives(&mut memory, exits);
-    fit_times(
-        &study,
+    let study = sealed_lives(&mut places, exits);
+    repeated(
         times,
-        &mut steps,
-        &mut gaps,
-        &mut blocks,
-        &mut scores,
+        &mut memory,
+        |memory: &mut FitMemory| fit_once(&study, memory),
     )
+    .unwrap_or(0)
 }

@@ -1,7 +1,8 @@
-use Rattle.std.proofs.Common.{map, length, take, refl, arith}
+use Rattle.std.proofs.Common.{map, ◌∙◌, rules, arith}
 use Rattle.std.proofs.lemmas.List.{length-map}
-use Rattle.exports.specs.Counts.{plain_ratio}
+use Rattle.exports.specs.Counts.{most_rates, plain_ratio, rates_count}
 use Rattle.exports.proofs.Counted.{too_many, rates_counted}
+use Rattle.exports.proofs.Repeated.{last_or_zero}
 use Rattle.exports.proofs.pool_repeatedly.Goals as goal
 
 pub returns-then-plain-gt-MOST : goal.returns-then-plain-gt-MOST
@@ -11,6 +12,7 @@ returns-then-plain-gt-MOST c =
 
 pub returns : goal.returns
 returns c =
-    let plain = c.args.plain.now in
-    rates_counted (map plain_ratio plain) (take (length plain) c.copy_in.new.rates) c.args.times c.pool_times.result
-    (c.if-not-copy_in.ensures.rates refl) c.pool_times.ensures
+    let rates = c.in-Some.rates.now in
+    let last = c.repeated.ensures (rates_count rates most_rates) (λ before after r made. search rules) in
+    c.unwrap_or.ensures
+    ∙ rates_counted (map plain_ratio c.args.plain.now) rates c.args.times _ c.in-Some.ensures.rates (last_or_zero c.args.times (rates_count rates most_rates) c.repeated.result last)

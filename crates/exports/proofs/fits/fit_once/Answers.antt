@@ -1,4 +1,4 @@
-use Rattle.std.proofs.Common.{ℕ, ◌≤◌, min, List, length, arith}
+use Rattle.std.proofs.Common.{◌≡◌, ℕ, ◌≤◌, min, List, length, arith, rules}
 use Rattle.sources.specs.Counts.{Counts}
 use Rattle.exports.specs.Codes.{most_gaps}
 use Rattle.exports.proofs.Coded.{coded, gap_small, steps_small}
@@ -15,7 +15,7 @@ works gaps blocks scores = min (length gaps) (min (length blocks) (length scores
 
 small : (g : given.Over) (c : In-Ok g) → c.in-Ok.fit.turning_gap ≤ most_gaps
 small g c =
-    gap_small (meant g c.args.source.now) c.in-Ok.fit (works c.args.gaps.now c.args.blocks.now c.args.scores.now) (length c.args.steps.now)
+    gap_small (meant g c.args.source.now) c.in-Ok.fit (works c.args.memory.now.gaps c.args.memory.now.blocks c.args.memory.now.scores) (length c.args.memory.now.steps)
     (g.S.Source.laws c.args.source.now) c.in-Ok.ensures.answer
 
 pub overflow_mul-result : goal.overflow_mul-result
@@ -24,15 +24,16 @@ overflow_mul-result g c = omega (arith, small g (goal.at.overflow_mul-result g c
 pub overflow_add-result : goal.overflow_add-result
 overflow_add-result g c =
     let e = c.in-Ok.ensures in
-    let few = steps_small (meant g c.args.source.now) c.in-Ok.fit (works c.args.gaps.now c.args.blocks.now c.args.scores.now) c.args.steps.now c.fit_curve.new.steps e.answer e.steps c.fit_curve.auto.steps in
-    omega (arith, small g (goal.at.overflow_add-result g c).In-Ok, few, c.requires.steps)
+    let s : length c.args.memory.now.steps ≡ 1025 = search rules in
+    let few = steps_small (meant g c.args.source.now) c.in-Ok.fit (works c.args.memory.now.gaps c.args.memory.now.blocks c.args.memory.now.scores) c.args.memory.now.steps _ e.answer e.steps c.fit_curve.auto.steps in
+    omega (arith, small g (goal.at.overflow_add-result g c).In-Ok, few, s)
 
 pub returns-in-Ok : goal.returns-in-Ok
 returns-in-Ok g c =
-    coded (meant g c.args.source.now) (length c.args.steps.now) (works c.args.gaps.now c.args.blocks.now c.args.scores.now)
-    c.in-Ok.ensures.answer c.requires.steps (omega (arith, c.requires.work))
+    coded (meant g c.args.source.now) (length c.args.memory.now.steps) (works c.args.memory.now.gaps c.args.memory.now.blocks c.args.memory.now.scores)
+    c.in-Ok.ensures.answer (search rules) (search rules)
 
 pub returns-in-Err : goal.returns-in-Err
 returns-in-Err g c =
-    coded (meant g c.args.source.now) (length c.args.steps.now) (works c.args.gaps.now c.args.blocks.now c.args.scores.now)
-    c.in-Err.ensures.answer c.requires.steps (omega (arith, c.requires.work))
+    coded (meant g c.args.source.now) (length c.args.memory.now.steps) (works c.args.memory.now.gaps c.args.memory.now.blocks c.args.memory.now.scores)
+    c.in-Err.ensures.answer (search rules) (search rules)
