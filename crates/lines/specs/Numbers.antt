@@ -53,8 +53,11 @@ abbrev pub next : {X Y : Type 0} → Option X → (X → Option Y) → Option Y
 next None f = None
 next (Some x) f = f x
 
+abbrev pub is_slash : ℕ → Bool
+is_slash b = b == 47
+
 abbrev pub no_slash : ℕ → Bool
-no_slash b = not (b == 47)
+no_slash b = not (is_slash b)
 
 -- two decimal numbers
 abbrev pub decimals_of : List ℕ → List ℕ → Option (ℕ × ℕ)

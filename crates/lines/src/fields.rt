@@ -21,10 +21,7 @@ pub fn without_end(line: &[u8]) -> &[u8]
 fn without_last(line: &[u8], byte: u8) -> &[u8]
     ensures { result.now ≡ without_final byte line.now }
 {
-    let Some((last, front)) = line.split_last() else {
-        return line;
-    };
-    if *last == byte { front } else { line }
+    line.strip_suffix(&[byte]).unwrap_or(line)
 }
 
 // Whether the first byte is this one.
@@ -35,6 +32,7 @@ pub fn begins_with(text: &[u8], byte: u8) -> bool
 }
 
 // The fields of a line: its longest runs of bytes that part no fields.
+// The library's `split` would tell of its parts only that no byte in them parts fields, and not that they are all.
 pub fn part(heap: Global, line: &[u8]) -> Result<Vec<&[u8]>, AllocError>
     ensures { IfOk result (λ v. map (λ x. x.now) v.items ≡ fields_of line.now) }
 {

@@ -1,8 +1,8 @@
 // Numbers as a ledger writes them.
-ghost use Rattle.std.specs.Prelude.{◌≡◌, ◌≤◌, is_some};
+ghost use Rattle.std.specs.Prelude.{◌≡◌, ◌≤◌, is_some, position};
 ghost use Rattle.std.specs.Char.{is_ascii_digit};
 ghost use Rattle.std.specs.List.{prefix_len};
-ghost use Rattle.lines.specs.Numbers.{capped, decimal_of, decimals_of, fraction, hours_form, no_slash, number_of, numeral, pair_of, unsigned_hours, word_of};
+ghost use Rattle.lines.specs.Numbers.{capped, decimal_of, decimals_of, fraction, hours_form, is_slash, number_of, numeral, pair_of, unsigned_hours, word_of};
 
 use crate::fields::begins_with;
 use std::str::from_utf8;
@@ -29,8 +29,7 @@ pub fn archive_word(field: &[u8]) -> Option<u32>
 pub fn at_most(field: &[u8], limit: u32) -> Option<u32>
     ensures { result ≡ capped limit (decimal_of field.now) }
 {
-    let value = decimal(field)?;
-    if value <= limit { Some(value) } else { None }
+    decimal(field).filter(|value| *value <= limit)
 }
 
 // The number that digits of a radix write, where it fits 32 bits.
@@ -95,22 +94,14 @@ fn is_numeral(text: &[u8]) -> bool
 fn digits_in_front(text: &[u8]) -> usize
     ensures { result ≡ prefix_len is_ascii_digit text.now }
 {
-    for (i, byte) in text.iter().enumerate() {
-        if !byte.is_ascii_digit() {
-            return i;
-        }
-    }
-    text.len()
+    text.iter().take_while(|byte| byte.is_ascii_digit()).count()
 }
 
 // Two decimal numbers with a slash between them.
 pub fn pair(field: &[u8]) -> Option<(u32, u32)>
     ensures { result ≡ pair_of field.now }
 {
-    let slash = slash_place(field);
-    if slash >= field.len() {
-        return None;
-    }
+    let slash = slash_place(field)?;
     decimals(&field[0..slash], &field[slash + 1..])
 }
 
@@ -120,14 +111,9 @@ fn decimals(first: &[u8], second: &[u8]) -> Option<(u32, u32)>
     Some((decimal(first)?, decimal(second)?))
 }
 
-// The place of the first slash, or the length where there is none.
-fn slash_place(field: &[u8]) -> usize
-    ensures { result ≡ prefix_len no_slash field.now }
+// The place of the first slash.
+fn slash_place(field: &[u8]) -> Option<usize>
+    ensures { result ≡ position is_slash field.now }
 {
-    for (i, byte) in field.iter().enumerate() {
-        if *byte == b'/' {
-            return i;
-        }
-    }
-    field.len()
+    field.iter().position(|byte| *byte == b'/')
 }
