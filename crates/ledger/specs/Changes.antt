@@ -1,12 +1,13 @@
 -- What a change does to the open study, and what is answered: each is one call of the library.
 use Rattle.std.specs.Prelude.{ℕ, Ok, Err, vec_items, Result}
 use Rattle.units.specs.Refusals as refusals
+use Rattle.units.specs.declared.refusals.Refusal.{Refusal}
 use Rattle.lives.specs.Decode.{load_after, load_answer}
 use Rattle.lives.specs.Lives.{judge}
 use Rattle.lives.specs.Sheets.{plain_row, row_life}
 use Rattle.lives.specs.Studies.{Held, enter_after, enter_answer, strike_after, strike_answer}
 use Rattle.ledger.specs.declared.answers.Answer.{Answer}
-use Rattle.ledger.specs.declared.answers.Answer.TheVariants.{Open, Place, Struck, Loaded, Sealed, Room, Noted, Growth, Blocks, Bench, Bound, Refused, NotNow, NotUnderstood}
+use Rattle.ledger.specs.declared.answers.Answer.TheVariants.{Open, Place, Struck, Loaded, Sealed, Room, Noted, Growth, Blocks, Bench, Bound}
 use Rattle.ledger.specs.declared.commands.Change.{Change}
 use Rattle.ledger.specs.declared.commands.Change.TheVariants.{Row, Enter, Strike, Load}
 
@@ -37,9 +38,11 @@ said (Growth n s) = another
 said (Blocks n) = another
 said Bench = another
 said (Bound n) = another
-said (Refused e) = refusal (refusals.told e)
-said NotNow = another
-said NotUnderstood = another
+
+-- what is said of a change that is answered or refused
+abbrev pub outcome : Result Answer Refusal → Said
+outcome (Ok a) = said a
+outcome (Err e) = refusal (refusals.told e)
 
 -- what is said of a call's answer
 abbrev pub say : {X : Type 0} → (X → Said) → Result X refusals.Refused → Said

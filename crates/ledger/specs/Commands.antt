@@ -1,5 +1,6 @@
 -- What the fields after a command's name say.
-use Rattle.std.specs.Prelude.{ℕ, cond, ◌&&◌, List, [], ◌∷◌, Some, None, Option}
+use Rattle.std.specs.Prelude.{◌≡◌, ℕ, cond, ◌&&◌, List, [], ◌∷◌, Some, None, Option}
+use Rattle.std.specs.Borrow.{Bor}
 use Rattle.std.specs.Option.{option_map}
 use Rattle.lives.specs.declared.types.UncheckedLife.{UncheckedLife}
 use Rattle.lines.specs.Numbers.{decimal_of, hours_form, next, word_of}
@@ -14,7 +15,15 @@ life_of s e x k =
 abbrev pub row_serial : List ℕ → List ℕ → List ℕ → Option ℕ
 row_serial s from to = next (decimal_of s) (λ serial. cond (hours_form from && hours_form to) (Some serial) None)
 
+-- what t reads of all fields, where it reads every one
+abbrev pub all_of : {X : Type 0} → (List ℕ → Option X) → List (List ℕ) → Option (List X)
+all_of t [] = Some []
+all_of t (f ∷ fs) = next (t f) (λ x. option_map (λ xs. x ∷ xs) (all_of t fs))
+
+-- a reader that answers what t reads of a field
+abbrev pub Reads : {X : Type 0} → (Bor (List ℕ) → Option X → Type 0) → (List ℕ → Option X) → Type 0
+Reads {X = X} post t = (field : Bor (List ℕ)) (r : Option X) → post field r → r ≡ t field.now
+
 -- the words of an archive, where every field is one
 abbrev pub words_of : List (List ℕ) → Option (List ℕ)
-words_of [] = Some []
-words_of (f ∷ fs) = next (word_of f) (λ word. option_map (λ words. word ∷ words) (words_of fs))
+words_of fs = all_of word_of fs

@@ -1,7 +1,7 @@
 // The answers to lines, as they are printed.
+use crate::failures::Failure;
 use crate::requests::Room;
 use std::{fmt, io};
-use units::{Layer, Refusal};
 
 // How many words of an archive stand on a line.
 const WORDS_TO_A_LINE: usize = 8;
@@ -20,77 +20,58 @@ pub enum Answer {
     Blocks(usize),
     Bench,
     Bound(u64),
-    Refused(Refusal),
-    NotNow,
-    NotUnderstood,
 }
 
 impl fmt::Display for Answer {
     fn fmt<W: fmt::Write>(&self, f: &mut fmt::Formatter<W>) -> fmt::Result {
-        match *self {
+        match self {
             Answer::Open(places) => write!(f, "open {places}"),
             Answer::Place(place) => write!(f, "place {place}"),
             Answer::Struck(place) => write!(f, "struck {place}"),
             Answer::Loaded(count) => write!(f, "loaded {count}"),
             Answer::Sealed(count) => write!(f, "sealed {count}"),
-            Answer::Room(what, places) => {
-                let what = room_name(what);
-                write!(f, "room {what} {places}")
-            }
+            Answer::Room(room, places) => write!(f, "room {room} {places}"),
             Answer::Noted(release) => write!(f, "noted {release}"),
             Answer::Growth(steps, score) => write!(f, "growth {steps} {score}"),
             Answer::Blocks(count) => write!(f, "blocks {count}"),
             Answer::Bench => f.write_str("bench"),
             Answer::Bound(bound) => write!(f, "bound {bound}"),
-            Answer::Refused(refusal) => show_refusal(refusal, f),
-            Answer::NotNow => f.write_str("not now"),
-            Answer::NotUnderstood => f.write_str("not understood"),
         }
     }
 }
 
-fn show_refusal<W: fmt::Write>(refusal: Refusal, f: &mut fmt::Formatter<W>) -> fmt::Result {
-    let number = refusal.number();
-    match refusal.word_place() {
-        Some(at) => {
-            let layer = layer_name(at.layer);
-            let place = at.place;
-            write!(f, "refused {number:02} {layer} {place}")
+// Prints what a line came to. What ends the program is handed on.
+pub fn print_answer(rt: &HostRuntime, outcome: Result<Answer, Failure>) -> io::Result<()> {
+    match outcome {
+        Ok(answer) => rt.println(answer),
+        Err(Failure::Io(error)) => Err(error),
+        Err(failure) => rt.println(failure),
+    }
+}
+
+// Some words of an archive on one line, in hexadecimal, parted by one blank.
+#[derive(Clone, Copy)]
+struct ArchiveLine<'a> {
+    words: &'a [u32],
+}
+
+impl fmt::Display for ArchiveLine<'_> {
+    fn fmt<W: fmt::Write>(&self, f: &mut fmt::Formatter<W>) -> fmt::Result {
+        let Some((first, rest)) = self.words.split_first() else {
+            return Ok(());
+        };
+        write!(f, "{first:08x}")?;
+        for word in rest {
+            write!(f, " {word:08x}")?;
         }
-        None => write!(f, "refused {number:02}"),
+        Ok(())
     }
 }
 
-fn layer_name(layer: Layer) -> &'static str {
-    match layer {
-        Layer::Frame => "frame",
-        Layer::Life => "life",
-    }
-}
-
-fn room_name(what: Room) -> &'static str {
-    match what {
-        Room::Words => "words",
-        Room::Blocks => "blocks",
-        Room::Steps => "steps",
-    }
-}
-
-// The words of an archive in hexadecimal, eight to a line, parted by one blank.
+// The words of an archive, eight to a line.
 pub fn print_words(rt: &HostRuntime, words: &[u32]) -> io::Result<()> {
-    for line in words.chunks(WORDS_TO_A_LINE) {
-        print_line(rt, line)?;
+    for words in words.chunks(WORDS_TO_A_LINE) {
+        rt.println(ArchiveLine { words })?;
     }
     Ok(())
-}
-
-fn print_line(rt: &HostRuntime, words: &[u32]) -> io::Result<()> {
-    for (i, word) in words.iter().enumerate() {
-        let word = *word;
-        if i > 0 {
-            print!(rt; " ")?;
-        }
-        print!(rt; "{word:08x}")?;
-    }
-    println!(rt; "")
 }

@@ -3,7 +3,9 @@ ghost use Rattle.std.specs.Prelude.{◌≡◌, map, IfSome, IfOk, vec_items, IsU
 ghost use Rattle.std.specs.Option.{option_map};
 ghost use Rattle.ledger.specs.Commands.{life_of, row_serial, words_of};
 
-use crate::requests::{Request, parse_request};
+use crate::failures::Failure;
+use crate::reading::read_all;
+use crate::requests::{Request, parse_bench, parse_bound, parse_note, parse_pool, parse_room};
 use lines::fields::{begins_with, part};
 use lines::numbers::{archive_word, at_most, decimal, hours};
 use lives::{SheetRow, UncheckedLife};
@@ -13,14 +15,19 @@ use std::str::from_utf8;
 // The most life places that a ledger opens a study over.
 const MOST_MEMORY: u32 = 4096;
 
-// What a line asks for.
+// What a line asks for: something of the study, or what needs none.
 #[derive(Drop)]
 pub enum Command<'a> {
+    Study(StudyCommand<'a>),
+    Request(Request),
+}
+
+#[derive(Drop)]
+pub enum StudyCommand<'a> {
     Memory(u32),
     Change(Change<'a>),
     Seal,
     Archive,
-    Request(Request),
 }
 
 // A change to the open study.
@@ -32,50 +39,52 @@ pub enum Change<'a> {
     Load(Vec<u32>),
 }
 
-// What a line is: nothing, a command, or none that is known.
-#[derive(Drop)]
-pub enum Line<'a> {
-    Nothing,
-    Asks(Command<'a>),
-    Unknown,
-}
-
-pub fn read(heap: Global, line: &[u8]) -> Result<Line<'_>, AllocError> {
+// The command of a line; none where it is blank or a comment.
+pub fn read(heap: Global, line: &[u8]) -> Result<Option<Command<'_>>, Failure> {
     if begins_with(line, b'#') {
-        return Ok(Line::Nothing);
+        return Ok(None);
     }
     let fields = part(heap, line)?;
     if fields.is_empty() {
-        return Ok(Line::Nothing);
+        return Ok(None);
     }
-    match parse(heap, fields.as_slice())? {
-        Some(command) => Ok(Line::Asks(command)),
-        None => Ok(Line::Unknown),
-    }
+    Ok(Some(parse(heap, fields.as_slice())?))
 }
 
-// The command that the fields of a line are.
-fn parse<'a>(heap: Global, fields: &[&'a [u8]]) -> Result<Option<Command<'a>>, AllocError> {
+// The command that the fields of a line are. Those that begin with no command's name are a row.
+fn parse<'a>(heap: Global, fields: &[&'a [u8]]) -> Result<Command<'a>, Failure> {
     let Some((name, rest)) = fields.split_first() else {
-        return Ok(None);
+        return Err(Failure::NotUnderstood);
     };
     match *name {
         b"load" => parse_load(heap, rest),
-        b"row" => Ok(parse_row(rest)),
-        b"memory" => Ok(parse_memory(rest)),
-        b"enter" => Ok(parse_enter(rest)),
-        b"strike" => Ok(parse_strike(rest)),
-        b"seal" => Ok(parse_alone(rest, Command::Seal)),
-        b"archive" => Ok(parse_alone(rest, Command::Archive)),
-        _ => match parse_request(heap, name, rest)? {
-            Some(request) => Ok(Some(Command::Request(request))),
-            None => Ok(parse_row(fields)),
-        },
+        b"pool" => Ok(Command::Request(parse_pool(heap, rest)?)),
+        b"bench" => Ok(Command::Request(parse_bench(heap, rest)?)),
+        b"row" => parse_row(rest).ok_or(Failure::NotUnderstood),
+        name => parse_named(name, rest)
+            .or_else(|| parse_row(fields))
+            .ok_or(Failure::NotUnderstood),
+    }
+}
+
+// The commands that need no memory.
+fn parse_named<'a>(name: &[u8], fields: &[&'a [u8]]) -> Option<Command<'a>> {
+    match name {
+        b"memory" => parse_memory(fields),
+        b"enter" => parse_enter(fields),
+        b"strike" => parse_strike(fields),
+        b"seal" => alone(fields, Command::Study(StudyCommand::Seal)),
+        b"archive" => alone(fields, Command::Study(StudyCommand::Archive)),
+        b"growth" => alone(fields, Command::Request(Request::Growth)),
+        b"room" => Some(Command::Request(parse_room(fields)?)),
+        b"note" => Some(Command::Request(parse_note(fields)?)),
+        b"bound" => Some(Command::Request(parse_bound(fields)?)),
+        _ => None,
     }
 }
 
 // A command that has no fields after its name.
-fn parse_alone<'a>(fields: &[&[u8]], command: Command<'a>) -> Option<Command<'a>> {
+fn alone<'a>(fields: &[&[u8]], command: Command<'a>) -> Option<Command<'a>> {
     if fields.is_empty() {
         Some(command)
     } else {
@@ -83,39 +92,41 @@ fn parse_alone<'a>(fields: &[&[u8]], command: Command<'a>) -> Option<Command<'a>
     }
 }
 
+fn changing(change: Change<'_>) -> Command<'_> {
+    Command::Study(StudyCommand::Change(change))
+}
+
 fn parse_memory<'a>(fields: &[&'a [u8]]) -> Option<Command<'a>> {
     let [places] = fields else {
         return None;
     };
-    Some(Command::Memory(at_most(places, MOST_MEMORY)?))
+    Some(Command::Study(StudyCommand::Memory(at_most(places, MOST_MEMORY)?)))
 }
 
 fn parse_row<'a>(fields: &[&'a [u8]]) -> Option<Command<'a>> {
     let [serial, from, to, status] = fields else {
         return None;
     };
-    Some(Command::Change(Change::Row(read_row(serial, from, to, status)?)))
+    Some(changing(Change::Row(read_row(serial, from, to, status)?)))
 }
 
 fn parse_enter<'a>(fields: &[&'a [u8]]) -> Option<Command<'a>> {
     let [serial, entry, exit, status] = fields else {
         return None;
     };
-    Some(Command::Change(Change::Enter(read_life(serial, entry, exit, status)?)))
+    Some(changing(Change::Enter(read_life(serial, entry, exit, status)?)))
 }
 
 fn parse_strike<'a>(fields: &[&'a [u8]]) -> Option<Command<'a>> {
     let [place] = fields else {
         return None;
     };
-    Some(Command::Change(Change::Strike(decimal(place)?)))
+    Some(changing(Change::Strike(decimal(place)?)))
 }
 
-fn parse_load<'a>(heap: Global, fields: &[&'a [u8]]) -> Result<Option<Command<'a>>, AllocError> {
-    let Some(words) = read_words(heap, fields)? else {
-        return Ok(None);
-    };
-    Ok(Some(Command::Change(Change::Load(words))))
+fn parse_load<'a>(heap: Global, fields: &[&'a [u8]]) -> Result<Command<'a>, Failure> {
+    let words = read_words(heap, fields)?.ok_or(Failure::NotUnderstood)?;
+    Ok(changing(Change::Load(words)))
 }
 
 fn read_row<'a>(serial: &[u8], from: &[u8], to: &[u8], status: &'a [u8]) -> Option<SheetRow<'a>>
@@ -146,12 +157,5 @@ fn read_life(serial: &[u8], entry: &[u8], exit: &[u8], status: &[u8]) -> Option<
 fn read_words(heap: Global, fields: &[&[u8]]) -> Result<Option<Vec<u32>>, AllocError>
     ensures { IfOk result (λ o. option_map vec_items o ≡ words_of (map (λ x. x.now) fields.now)) }
 {
-    let mut words = Vec::new(heap);
-    for field in fields {
-        let Some(word) = archive_word(field) else {
-            return Ok(None);
-        };
-        words.push(word)?;
-    }
-    Ok(Some(words))
+    read_all(heap, fields, archive_word)
 }

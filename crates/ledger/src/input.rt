@@ -25,15 +25,13 @@ impl Input {
         })
     }
 
-    // Reads the next line. False where there is none.
-    pub fn advance(&mut self) -> io::Result<bool> {
+    // The next line without its end; none at the end of the input.
+    pub fn next_line(&mut self) -> io::Result<Option<&[u8]>> {
         self.line.clear();
         let count = self.reader.read_until(b'\n', &mut self.line)?;
-        Ok(count > 0)
-    }
-
-    // The line without its end.
-    pub fn line(&self) -> &[u8] {
-        without_end(self.line.as_slice())
+        if count == 0 {
+            return Ok(None);
+        }
+        Ok(Some(without_end(self.line.as_slice())))
     }
 }

@@ -4,7 +4,9 @@
 mod answers;
 mod commands;
 mod desk;
+mod failures;
 mod input;
+mod reading;
 mod requests;
 mod running;
 

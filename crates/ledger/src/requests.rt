@@ -1,8 +1,11 @@
 // Lines that need no study: memory to lend, releases, lists to pool, and bench runs.
+use crate::failures::Failure;
+use crate::reading::read_all;
 use lines::numbers::{at_most, decimal, pair};
 use pooling::{Rate, Share};
 use sources::Confidence;
-use std::alloc::{AllocError, Global};
+use std::alloc::Global;
+use std::fmt;
 use units::{Age, Exposure};
 
 // The most places of other memory than life memory that a ledger lends.
@@ -14,6 +17,28 @@ pub enum Room {
     Words,
     Blocks,
     Steps,
+}
+
+impl Room {
+    // The fields of a line are bytes, and only here is one a room: an `Option` says as much as a `TryFrom` would.
+    fn named(name: &[u8]) -> Option<Room> {
+        match name {
+            b"words" => Some(Room::Words),
+            b"blocks" => Some(Room::Blocks),
+            b"steps" => Some(Room::Steps),
+            _ => None,
+        }
+    }
+}
+
+impl fmt::Display for Room {
+    fn fmt<W: fmt::Write>(&self, f: &mut fmt::Formatter<W>) -> fmt::Result {
+        f.write_str(match self {
+            Room::Words => "words",
+            Room::Blocks => "blocks",
+            Room::Steps => "steps",
+        })
+    }
 }
 
 // Trials of a release.
@@ -43,37 +68,14 @@ pub enum Request {
     Bound(Confidence),
 }
 
-// The request that a name and the fields after it are.
-pub fn parse_request(
-    heap: Global,
-    name: &[u8],
-    fields: &[&[u8]],
-) -> Result<Option<Request>, AllocError> {
-    match name {
-        b"room" => Ok(parse_room(fields)),
-        b"note" => Ok(parse_note(fields)),
-        b"growth" => Ok(parse_growth(fields)),
-        b"pool" => parse_pool(heap, fields),
-        b"bench" => parse_bench(heap, fields),
-        b"bound" => Ok(parse_bound(fields)),
-        _ => Ok(None),
-    }
-}
-
-fn parse_room(fields: &[&[u8]]) -> Option<Request> {
-    let [what, places] = fields else {
+pub fn parse_room(fields: &[&[u8]]) -> Option<Request> {
+    let [room, places] = fields else {
         return None;
     };
-    let what = match *what {
-        b"words" => Room::Words,
-        b"blocks" => Room::Blocks,
-        b"steps" => Room::Steps,
-        _ => return None,
-    };
-    Some(Request::Lend(what, at_most(places, MOST_ROOM)?))
+    Some(Request::Lend(Room::named(room)?, at_most(places, MOST_ROOM)?))
 }
 
-fn parse_note(fields: &[&[u8]]) -> Option<Request> {
+pub fn parse_note(fields: &[&[u8]]) -> Option<Request> {
     let [release, successes, trials] = fields else {
         return None;
     };
@@ -84,15 +86,7 @@ fn parse_note(fields: &[&[u8]]) -> Option<Request> {
     }))
 }
 
-fn parse_growth(fields: &[&[u8]]) -> Option<Request> {
-    if fields.is_empty() {
-        Some(Request::Growth)
-    } else {
-        None
-    }
-}
-
-fn parse_bound(fields: &[&[u8]]) -> Option<Request> {
+pub fn parse_bound(fields: &[&[u8]]) -> Option<Request> {
     let [percent] = fields else {
         return None;
     };
@@ -103,65 +97,31 @@ fn parse_bound(fields: &[&[u8]]) -> Option<Request> {
     }
 }
 
-fn parse_bench(heap: Global, fields: &[&[u8]]) -> Result<Option<Request>, AllocError> {
-    let [units, stop, ..] = fields else {
-        return Ok(None);
+pub fn parse_bench(heap: Global, fields: &[&[u8]]) -> Result<Request, Failure> {
+    let [units, stop, ages @ ..] = fields else {
+        return Err(Failure::NotUnderstood);
     };
-    let (Some(units), Some(stop)) = (decimal(units), decimal(stop)) else {
-        return Ok(None);
-    };
-    let Some(ages) = read_ages(heap, &fields[2..])? else {
-        return Ok(None);
-    };
-    Ok(Some(Request::Bench(Bench {
-        units,
-        stop: Age(stop),
-        ages,
-    })))
+    Ok(Request::Bench(Bench {
+        units: decimal(units).ok_or(Failure::NotUnderstood)?,
+        stop: read_age(stop).ok_or(Failure::NotUnderstood)?,
+        ages: read_all(heap, ages, read_age)?.ok_or(Failure::NotUnderstood)?,
+    }))
 }
 
-fn read_ages(heap: Global, fields: &[&[u8]]) -> Result<Option<Vec<Age>>, AllocError> {
-    let mut ages = Vec::new(heap);
-    for field in fields {
-        let Some(age) = decimal(field) else {
-            return Ok(None);
-        };
-        ages.push(Age(age))?;
-    }
-    Ok(Some(ages))
-}
-
-fn parse_pool(heap: Global, fields: &[&[u8]]) -> Result<Option<Request>, AllocError> {
+pub fn parse_pool(heap: Global, fields: &[&[u8]]) -> Result<Request, Failure> {
     let Some((kind, pieces)) = fields.split_first() else {
-        return Ok(None);
+        return Err(Failure::NotUnderstood);
     };
-    match *kind {
-        b"rates" => parse_rates(heap, pieces),
-        b"shares" => parse_shares(heap, pieces),
-        _ => Ok(None),
-    }
+    let request = match *kind {
+        b"rates" => read_all(heap, pieces, read_rate)?.map(Request::PoolRates),
+        b"shares" => read_all(heap, pieces, read_share)?.map(Request::PoolShares),
+        _ => None,
+    };
+    request.ok_or(Failure::NotUnderstood)
 }
 
-fn parse_rates(heap: Global, fields: &[&[u8]]) -> Result<Option<Request>, AllocError> {
-    let mut rates = Vec::new(heap);
-    for field in fields {
-        let Some(rate) = read_rate(field) else {
-            return Ok(None);
-        };
-        rates.push(rate)?;
-    }
-    Ok(Some(Request::PoolRates(rates)))
-}
-
-fn parse_shares(heap: Global, fields: &[&[u8]]) -> Result<Option<Request>, AllocError> {
-    let mut shares = Vec::new(heap);
-    for field in fields {
-        let Some(share) = read_share(field) else {
-            return Ok(None);
-        };
-        shares.push(share)?;
-    }
-    Ok(Some(Request::PoolShares(shares)))
+fn read_age(field: &[u8]) -> Option<Age> {
+    decimal(field).map(Age)
 }
 
 fn read_rate(field: &[u8]) -> Option<Rate> {

@@ -1,12 +1,12 @@
 // The running of a ledger: one study after another, each first open, then sealed.
 ghost use Rattle.std.specs.Prelude.{◌≡◌};
-ghost use Rattle.units.specs.Refusals.{answer};
 ghost use Rattle.lives.specs.Studies.{held};
-ghost use Rattle.ledger.specs.Changes.{change_after, change_answer, loaded, placed, said, say, struck};
+ghost use Rattle.ledger.specs.Changes.{change_after, change_answer, outcome};
 
-use crate::answers::{Answer, print_words};
-use crate::commands::{Change, Command, Line, read};
+use crate::answers::{Answer, print_answer, print_words};
+use crate::commands::{Change, Command, StudyCommand, read};
 use crate::desk::Desk;
+use crate::failures::Failure;
 use crate::input::Input;
 use lives::{OpenStudy, Place, SealedStudy};
 use std::io;
@@ -15,18 +15,18 @@ use units::Refusal;
 // The life places of the study that is open at the start.
 const FIRST_MEMORY: u32 = 1024;
 
-// What comes after the lines of an open study.
-#[derive(Drop)]
+// What ends the lines of a study. The end of the input does too.
+#[derive(Clone, Copy)]
 enum Next {
     Memory(u32),
     Seal,
-    End,
 }
 
 pub fn run(rt: &HostRuntime) -> io::Result<()> {
     let mut input = Input::new(rt)?;
     let mut desk = Desk::new();
     let mut places = FIRST_MEMORY;
+    // Ends with the input: no ledger has so many studies, and the count is not read.
     for _ in 0..u64::MAX {
         let Some(more) = study_lines(rt, &mut input, &mut desk, places)? else {
             break;
@@ -47,145 +47,123 @@ fn study_lines(
 ) -> io::Result<Option<u32>> {
     let mut memory = vec![in rt.alloc(); Place::blank(); places as usize]?;
     let mut study = OpenStudy::open(memory.as_mut_slice());
-    match open_lines(rt, input, desk, &mut study)? {
-        Next::Memory(places) => return Ok(Some(places)),
-        Next::End => return Ok(None),
-        Next::Seal => {}
+    match do_lines(rt, input, desk, &mut study)? {
+        Some(Next::Seal) => {}
+        Some(Next::Memory(places)) => return Ok(Some(places)),
+        None => return Ok(None),
     }
-    let study = study.seal();
+    let mut study = study.seal();
     rt.println(Answer::Sealed(study.places().len()))?;
-    sealed_lines(rt, input, desk, &study)
+    do_lines(rt, input, desk, &mut study)
 }
 
-fn open_lines(
+// A study that lines are done to, until one of them ends it.
+trait Worked {
+    type End;
+
+    fn work(
+        &mut self,
+        rt: &HostRuntime,
+        desk: &Desk,
+        command: StudyCommand,
+    ) -> Result<Option<Self::End>, Failure>;
+}
+
+impl Worked for OpenStudy<'_> {
+    type End = Next;
+
+    fn work(
+        &mut self,
+        rt: &HostRuntime,
+        _desk: &Desk,
+        command: StudyCommand,
+    ) -> Result<Option<Next>, Failure> {
+        match command {
+            StudyCommand::Memory(places) => Ok(Some(Next::Memory(places))),
+            StudyCommand::Seal => Ok(Some(Next::Seal)),
+            StudyCommand::Change(change) => {
+                rt.println(changed(self, change)?)?;
+                Ok(None)
+            }
+            StudyCommand::Archive => Err(Failure::NotNow),
+        }
+    }
+}
+
+impl Worked for SealedStudy<'_> {
+    type End = u32;
+
+    fn work(
+        &mut self,
+        rt: &HostRuntime,
+        desk: &Desk,
+        command: StudyCommand,
+    ) -> Result<Option<u32>, Failure> {
+        match command {
+            StudyCommand::Memory(places) => Ok(Some(places)),
+            StudyCommand::Archive => {
+                archive(rt, self, desk.words)?;
+                Ok(None)
+            }
+            StudyCommand::Seal | StudyCommand::Change(_) => Err(Failure::NotNow),
+        }
+    }
+}
+
+// Does lines until one ends the study, or the input ends.
+fn do_lines<S: Worked>(
     rt: &HostRuntime,
     input: &mut Input,
     desk: &mut Desk,
-    study: &mut OpenStudy,
-) -> io::Result<Next> {
+    study: &mut S,
+) -> io::Result<Option<S::End>> {
+    // Ends with the input, as above.
     for _ in 0..u64::MAX {
-        if !input.advance()? {
+        let Some(line) = input.next_line()? else {
             break;
-        }
-        match open_line(rt, input.line(), desk, study)? {
-            Some(next) => return Ok(next),
-            None => {}
-        }
-    }
-    Ok(Next::End)
-}
-
-fn open_line(
-    rt: &HostRuntime,
-    line: &[u8],
-    desk: &mut Desk,
-    study: &mut OpenStudy,
-) -> io::Result<Option<Next>> {
-    let answer = match read(rt.alloc(), line)? {
-        Line::Nothing => return Ok(None),
-        Line::Unknown => Answer::NotUnderstood,
-        Line::Asks(Command::Memory(places)) => return Ok(Some(Next::Memory(places))),
-        Line::Asks(Command::Seal) => return Ok(Some(Next::Seal)),
-        Line::Asks(Command::Change(change)) => changed(study, change),
-        Line::Asks(Command::Archive) => Answer::NotNow,
-        Line::Asks(Command::Request(request)) => {
-            desk.answer(rt, request)?;
-            return Ok(None);
-        }
-    };
-    rt.println(answer)?;
-    Ok(None)
-}
-
-fn sealed_lines(
-    rt: &HostRuntime,
-    input: &mut Input,
-    desk: &mut Desk,
-    study: &SealedStudy,
-) -> io::Result<Option<u32>> {
-    for _ in 0..u64::MAX {
-        if !input.advance()? {
-            break;
-        }
-        match sealed_line(rt, input.line(), desk, study)? {
-            Some(places) => return Ok(Some(places)),
-            None => {}
+        };
+        match do_line(rt, line, desk, study) {
+            Ok(None) => {}
+            Ok(end) => return Ok(end),
+            Err(failure) => print_answer(rt, Err(failure))?,
         }
     }
     Ok(None)
 }
 
-fn sealed_line(
+fn do_line<S: Worked>(
     rt: &HostRuntime,
     line: &[u8],
     desk: &mut Desk,
-    study: &SealedStudy,
-) -> io::Result<Option<u32>> {
-    let answer = match read(rt.alloc(), line)? {
-        Line::Nothing => return Ok(None),
-        Line::Unknown => Answer::NotUnderstood,
-        Line::Asks(Command::Memory(places)) => return Ok(Some(places)),
-        Line::Asks(Command::Seal) | Line::Asks(Command::Change(_)) => Answer::NotNow,
-        Line::Asks(Command::Archive) => {
-            archive(rt, study, desk.words)?;
-            return Ok(None);
+    study: &mut S,
+) -> Result<Option<S::End>, Failure> {
+    match read(rt.alloc(), line)? {
+        None => Ok(None),
+        Some(Command::Study(command)) => study.work(rt, desk, command),
+        Some(Command::Request(request)) => {
+            rt.println(desk.answer(rt, request)?)?;
+            Ok(None)
         }
-        Line::Asks(Command::Request(request)) => {
-            desk.answer(rt, request)?;
-            return Ok(None);
-        }
-    };
-    rt.println(answer)?;
-    Ok(None)
+    }
 }
 
-fn archive(rt: &HostRuntime, study: &SealedStudy, room: u32) -> io::Result<()> {
+fn archive(rt: &HostRuntime, study: &SealedStudy, room: u32) -> Result<(), Failure> {
     let mut words = vec![in rt.alloc(); 0; room as usize]?;
-    match study.write(words.as_mut_slice()) {
-        Ok(length) => {
-            words.truncate(length);
-            print_words(rt, words.as_slice())
-        }
-        Err(refusal) => rt.println(Answer::Refused(refusal)),
-    }
+    let length = study.write(words.as_mut_slice())?;
+    words.truncate(length);
+    print_words(rt, words.as_slice())?;
+    Ok(())
 }
 
 // Makes a change to the open study.
-fn changed(study: &mut OpenStudy, change: Change) -> Answer
-    ensures answer { said result ≡ change_answer (held study.old) change.entry }
+fn changed(study: &mut OpenStudy, change: Change) -> Result<Answer, Refusal>
+    ensures answer { outcome result ≡ change_answer (held study.old) change.entry }
     ensures after { held study.new ≡ change_after (held study.old) change.entry }
 {
     match change {
-        Change::Row(row) => entered(study.enter_row(&row)),
-        Change::Enter(life) => entered(study.enter(life)),
-        Change::Strike(place) => struck_at(place, study.strike(place as usize)),
-        Change::Load(words) => loaded_of(study.load(words.as_slice())),
-    }
-}
-
-fn entered(res: Result<usize, Refusal>) -> Answer
-    ensures { said result ≡ say placed (answer res) }
-{
-    match res {
-        Ok(place) => Answer::Place(place),
-        Err(refusal) => Answer::Refused(refusal),
-    }
-}
-
-fn struck_at(place: u32, res: Result<(), Refusal>) -> Answer
-    ensures { said result ≡ say (λ _. struck place) (answer res) }
-{
-    match res {
-        Ok(()) => Answer::Struck(place),
-        Err(refusal) => Answer::Refused(refusal),
-    }
-}
-
-fn loaded_of(res: Result<usize, Refusal>) -> Answer
-    ensures { said result ≡ say loaded (answer res) }
-{
-    match res {
-        Ok(count) => Answer::Loaded(count),
-        Err(refusal) => Answer::Refused(refusal),
+        Change::Row(row) => study.enter_row(&row).map(Answer::Place),
+        Change::Enter(life) => study.enter(life).map(Answer::Place),
+        Change::Strike(place) => study.strike(place as usize).map(|()| Answer::Struck(place)),
+        Change::Load(words) => study.load(words.as_slice()).map(Answer::Loaded),
     }
 }
