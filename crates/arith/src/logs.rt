@@ -77,7 +77,7 @@ fn positive_log2(n: u32) -> u32
 }
 
 // The base-2 logarithm of n times 2^SQUARINGS, in whole numbers: at most the true value, and less than 2 below it.
-// 0 has no logarithm; it is answered by 0, and in a score it stands only beside the factor 0.
+// 0 has no logarithm; it is answered by 0 and by no `Option`, as in a score it stands only beside the factor 0, so that no score can fail.
 pub fn scaled_log2(n: u32) -> u32
     ensures value { result ≡ S n }
     ensures small { result < 2 ^ (squarings + 5) }

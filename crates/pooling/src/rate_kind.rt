@@ -16,7 +16,7 @@ impl Rate {
     pub fn new(failures: u32, exposure: Exposure) -> Option<Rate>
         ensures { option_map rate_ratio result ≡ rate_made failures exposure.0 }
     {
-        if exposure.0 == 0 {
+        if exposure == Exposure(0) {
             None
         } else {
             Some(Rate { failures, exposure })

@@ -16,7 +16,7 @@ use super::stacks::Stack;
 use isotonic::Block;
 use units::Refusal;
 
-// Whether the bulks add up to the limit at most.
+// Whether the bulks add up to the limit at most. A `try_fold` would say it no plainer: its closure tests and adds, and its answer is turned into a flag.
 fn within_limit<K: Poolable>(pieces: &[K]) -> bool
     ensures { result ≡ nat_le (sum_by K.bulks pieces.now) limit }
 {
