@@ -29,13 +29,21 @@ impl<'a> OpenStudy<'a> {
     }
 
     // Strikes the life at a place: it keeps its place and counts in no fit.
+    #[tactic(auto, using(crate::proofs::Places::unstruck_past, crate::proofs::Places::length_used, crate::proofs::Places::struck_is, crate::proofs::Places::held_struck))]
     pub fn strike(&mut self, place: usize) -> Result<(), Refusal>
         ensures answer { answer result ≡ strike_answer (held self.old) place }
         ensures after { held self.new ≡ strike_after (held self.old) place }
         ensures refused { is_ok result ≡ false → self.new ≡ self.old }
         ensures named { self.new.memory.ghost_name ≡ self.old.memory.ghost_name }
     {
-        self.mark(place)
+        if place >= self.used {
+            return Err(Refusal::NothingToStrike);
+        }
+        if self.memory[place].struck {
+            return Err(Refusal::NothingToStrike);
+        }
+        self.memory[place].struck = true;
+        Ok(())
     }
 
     // Uses up the open study. It is never refused.

@@ -30,7 +30,7 @@ impl OpenStudy<'_> {
 }
 
 impl OpenStudy<'_> {
-    // The first places hold the lives, each of four words.
+    // The first places hold the lives, each of four words. They are at most 1,024 (`few`, here and in two more workers): a type around the slice would say it no shorter.
     fn fill(&mut self, lives: &[[u32; 4]])
         requires few { length lives.now ≤ most_places }
         requires room { length lives.now ≤ length self.old.memory.now }
@@ -40,10 +40,7 @@ impl OpenStudy<'_> {
         ensures named { self.new.memory.ghost_name ≡ self.old.memory.ghost_name }
     {
         for (i, life) in lives.iter().enumerate() {
-            match read_place(life) {
-                Ok(place) => self.memory[i] = place,
-                Err(_) => unreachable(),
-            }
+            self.memory[i] = read_place(life).unwrap();
         }
         self.used = lives.len();
     }

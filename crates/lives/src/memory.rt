@@ -3,7 +3,7 @@ ghost use Rattle.std.specs.Prelude.{◌≡◌, ◌<◌, ◌≤◌, false, length
 ghost use Rattle.units.specs.declared.refusals.Refusal.TheVariants.{StudyInUse, NoPlaceLeft};
 ghost use Rattle.units.specs.Refusals.{answer};
 ghost use Rattle.lives.specs.Lives.{plain_life};
-ghost use Rattle.lives.specs.Studies.{enter_after, enter_answer, held, strike_after, strike_answer};
+ghost use Rattle.lives.specs.Studies.{enter_after, enter_answer, held};
 
 use crate::studies::{MOST_PLACES, OpenStudy};
 use crate::types::{Life, Place};
@@ -27,24 +27,6 @@ impl OpenStudy<'_> {
         };
         self.used = next + 1;
         Ok(next)
-    }
-
-    // The life at a place in use is struck, if it was not.
-    #[tactic(auto, using(crate::proofs::Places::unstruck_past, crate::proofs::Places::length_used, crate::proofs::Places::struck_is, crate::proofs::Places::held_struck))]
-    pub(crate) fn mark(&mut self, place: usize) -> Result<(), Refusal>
-        ensures answer { answer result ≡ strike_answer (held self.old) place }
-        ensures after { held self.new ≡ strike_after (held self.old) place }
-        ensures refused { is_ok result ≡ false → self.new ≡ self.old }
-        ensures named { self.new.memory.ghost_name ≡ self.old.memory.ghost_name }
-    {
-        if place >= self.used {
-            return Err(Refusal::NothingToStrike);
-        }
-        if self.memory[place].struck {
-            return Err(Refusal::NothingToStrike);
-        }
-        self.memory[place].struck = true;
-        Ok(())
     }
 
     // Whether no place is used.

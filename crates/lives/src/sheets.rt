@@ -50,7 +50,7 @@ impl TryFrom<&SheetRow<'_>> for Life {
 }
 
 impl OpenStudy<'_> {
-    // Enters the life of a row, and answers its place, counted from 0.
+    // Enters the life of a row, and answers its place, counted from 0. `enter` does it with four numbers: two calls of the rules, each with its own refusals.
     pub fn enter_row(&mut self, row: &SheetRow) -> Result<usize, Refusal>
         ensures answer { answer result ≡ enter_answer (held self.old) (row_life (plain_row row.now)) }
         ensures after { held self.new ≡ enter_after (held self.old) (row_life (plain_row row.now)) }

@@ -1,5 +1,6 @@
-// The two studies. Each holds the life memory that was lent to it, and how many places of it are used.
-// Each has these fields itself: callers' clauses name them, and a struct within both would make each clause one step longer.
+// The two studies. Each holds the life memory that was lent to it (the library has no heap), and how many places of it are used.
+// Each has these fields itself: with a struct within both (tried), each clause is one step longer, and a call that writes through it needs a worker of that struct with the same four clauses.
+// They are no one type with a state as its parameter: definitions of other crates name both types, and an alias has no such name.
 ghost use Rattle.std.specs.Prelude.{◌≤◌, length};
 ghost use Rattle.lives.specs.declared.studies.TheConstants.{MOST_PLACES};
 

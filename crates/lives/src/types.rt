@@ -33,7 +33,7 @@ pub struct Place {
     pub struck: bool,
 }
 
-// Four numbers that may be a life: the ages in ticks, the status as 0, 1 or 2.
+// Four numbers that may be a life: the ages in ticks, the status as 0, 1 or 2, as the rules take them.
 #[derive(Clone, Copy)]
 pub struct UncheckedLife {
     pub serial: u32,

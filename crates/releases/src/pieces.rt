@@ -7,6 +7,7 @@ use super::sheets::ROWS;
 use pooling::Share;
 
 // The shares of rows with trials, and the release of each, in the first `count` places.
+// They stand side by side, as pooling reads a slice of shares, and in arrays with a count, as the library has no heap.
 #[derive(Drop)]
 pub(crate) struct Pieces {
     shares: [Share; ROWS],

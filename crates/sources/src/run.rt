@@ -12,7 +12,7 @@ pub struct BenchRun<'a> {
     pub(crate) units: u32,
     pub(crate) ages: &'a [Age],
     pub(crate) stop: Age,
-    // Whether the data keep the rules, tested once.
+    // Whether the data keep the rules, tested once. A flag, and no `Option` of the ages, since a void bench too says what it was made of.
     pub(crate) kept: bool,
     ghost tested: { kept ≡ valid (record { units = units; ages = map age_ticks ages.now; stop = stop.0 }) },
 }

@@ -27,7 +27,7 @@ pub trait Source {
     fn exposure_between(&self, from: Age, to: Age) -> Exposure
         ensures { result.0 ≡ between (counts self.now).watched from.0 to.0 };
 
-    // The oldest age at which a unit was watched, or 0.
+    // The oldest age at which a unit was watched; 0, as the rules have it, where none was.
     fn oldest_age(&self) -> Age
         ensures { result.0 ≡ oldest (counts self.now).watched };
 }
