@@ -34,7 +34,7 @@ pub struct Fit {
     pub time_on_test: Exposure,
 }
 
-// The work memory of a fit: as many work places as the shortest row has.
+// The work memory of a fit: as many work places as the shortest row has. Three rows of the caller's, since the library has no heap.
 #[derive(Drop)]
 pub struct Work<'a> {
     pub gaps: &'a mut [Gap],

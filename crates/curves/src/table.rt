@@ -9,7 +9,7 @@ use sources::Gap;
 use units::{Age, Exposure};
 
 // The gaps of so many counted ages, and last the gap from there to the oldest age, so that its ages have the numbers 0 to count + 1.
-// Rows past that gap are not read.
+// Rows past that gap are not read. The count stands beside the slice, as every definition speaks of k counted ages: of a slice cut to k + 1 rows, each clause would say its length less one.
 #[derive(Clone, Copy)]
 pub(crate) struct Table<'a> {
     pub(crate) gaps: &'a [Gap],

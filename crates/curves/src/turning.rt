@@ -23,7 +23,7 @@ struct Turn {
     score: i64,
 }
 
-// The two rows are lent one beside the other: that they are long enough is a fact of the table and of them, which a type of the rows alone could not keep.
+// The two rows are lent one beside the other: that they are long enough is a fact of the table and of them. A type of all three would have to say in each clause that it keeps both rows.
 impl LightTable<'_> {
     // The score of the falling fit of each front of the left pieces: of the first i at place i.
     fn score_fronts(&self, blocks: &mut [Block<Turned<Rate>>], scores: &mut [i64])

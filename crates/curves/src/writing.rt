@@ -54,7 +54,7 @@ impl Split<'_> {
         ensures rest { drop self.now.table.count blocks.new ≡ drop self.now.table.count blocks.old }
     {
         let mut stack = Stack::new(blocks);
-        // Counted: a piece of a side goes by its number.
+        // Counted: a piece of a side goes by its number, since on the right the last comes first.
         for i in 0..self.size(side) {
             self.table.push_piece(side, i, &mut stack);
         }
@@ -91,7 +91,7 @@ impl Split<'_> {
         }
     }
 
-    // Writes the blocks of a side's stack as steps, in order of age, from a place on.
+    // Writes the blocks of a side's stack as steps, in order of age, from a place on (and not into a slice that begins there: the clauses speak of all step memory).
     // The crate `releases` has a loop much like this one, over blocks in another order and to other steps: the two share two lines.
     fn write_side(
         &self,

@@ -14,10 +14,10 @@ use pooling::{Rate, Turned};
 use sources::{BenchRun, Gap, Source};
 use units::Age;
 
-// The most ages, and the most gaps: one more.
+// The most ages, and the most gaps: one more. Other limits of 1,024 are other rules' numbers.
 const MOST_AGES: usize = 1024;
 
-const MOST_GAPS: usize = 1025;
+const MOST_GAPS: usize = MOST_AGES + 1;
 
 // A turning gap counts so much in the number that is answered.
 const GAP_UNIT: u64 = 65_536;

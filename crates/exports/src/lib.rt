@@ -15,7 +15,7 @@ use pooling::{Rate, pool_rising};
 use repeating::repeated;
 use units::Exposure;
 
-// The most rates in a list.
+// The most rates in a list. It is `Rate::MOST`, but a constant's value can't name a trait's constant.
 const MOST: usize = 1024;
 
 // Failures over an exposure, as a C caller lays them out.

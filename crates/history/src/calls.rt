@@ -9,7 +9,7 @@ ghost use Rattle.history.specs.Runs.{Reached, Stands, call_after, call_answer, c
 use lives::{OpenStudy, Place, SealedStudy, SheetRow, UncheckedLife};
 use units::Refusal;
 
-// A call that may change an open study.
+// A call that may change an open study. It borrows its words, where the ledger's `Change` has those of a line.
 #[derive(Drop)]
 pub enum Call<'c> {
     Enter(UncheckedLife),
