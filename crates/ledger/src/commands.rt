@@ -30,7 +30,7 @@ pub enum StudyCommand<'a> {
     Archive,
 }
 
-// A change to the open study.
+// A change to the open study. It has its words, where `Call` of the crate `history` borrows them.
 #[derive(Drop)]
 pub enum Change<'a> {
     Row(SheetRow<'a>),
@@ -85,11 +85,7 @@ fn parse_named<'a>(name: &[u8], fields: &[&'a [u8]]) -> Option<Command<'a>> {
 
 // A command that has no fields after its name.
 fn alone<'a>(fields: &[&[u8]], command: Command<'a>) -> Option<Command<'a>> {
-    if fields.is_empty() {
-        Some(command)
-    } else {
-        None
-    }
+    fields.is_empty().then_some(command)
 }
 
 fn changing(change: Change<'_>) -> Command<'_> {

@@ -22,13 +22,22 @@ enum Next {
     Seal,
 }
 
+// What outlives a study: the input, and the desk.
+#[derive(Drop)]
+struct Ledger {
+    input: Input,
+    desk: Desk,
+}
+
 pub fn run(rt: &HostRuntime) -> io::Result<()> {
-    let mut input = Input::new(rt)?;
-    let mut desk = Desk::new();
+    let mut ledger = Ledger {
+        input: Input::new(rt)?,
+        desk: Desk::new(),
+    };
     let mut places = FIRST_MEMORY;
     // Ends with the input: no ledger has so many studies, and the count is not read.
     for _ in 0..u64::MAX {
-        let Some(more) = study_lines(rt, &mut input, &mut desk, places)? else {
+        let Some(more) = ledger.study_lines(rt, places)? else {
             break;
         };
         places = more;
@@ -37,24 +46,41 @@ pub fn run(rt: &HostRuntime) -> io::Result<()> {
     Ok(())
 }
 
-// Opens a study over new memory, and does its lines until the next study or the end of the input.
-// Answers the life places of the next study.
-fn study_lines(
-    rt: &HostRuntime,
-    input: &mut Input,
-    desk: &mut Desk,
-    places: u32,
-) -> io::Result<Option<u32>> {
-    let mut memory = vec![in rt.alloc(); Place::blank(); places as usize]?;
-    let mut study = OpenStudy::open(memory.as_mut_slice());
-    match do_lines(rt, input, desk, &mut study)? {
-        Some(Next::Seal) => {}
-        Some(Next::Memory(places)) => return Ok(Some(places)),
-        None => return Ok(None),
+impl Ledger {
+    // Opens a study over new memory, and does its lines until the next study or the end of the input.
+    // Answers the life places of the next study.
+    fn study_lines(&mut self, rt: &HostRuntime, places: u32) -> io::Result<Option<u32>> {
+        let mut memory = vec![in rt.alloc(); Place::blank(); places as usize]?;
+        let mut study = OpenStudy::open(memory.as_mut_slice());
+        match self.do_lines(rt, &mut study)? {
+            Some(Next::Seal) => {}
+            Some(Next::Memory(places)) => return Ok(Some(places)),
+            None => return Ok(None),
+        }
+        let mut study = study.seal();
+        rt.println(Answer::Sealed(study.places().len()))?;
+        self.do_lines(rt, &mut study)
     }
-    let mut study = study.seal();
-    rt.println(Answer::Sealed(study.places().len()))?;
-    do_lines(rt, input, desk, &mut study)
+
+    // Does lines until one ends the study, or the input ends.
+    fn do_lines<S: Worked>(
+        &mut self,
+        rt: &HostRuntime,
+        study: &mut S,
+    ) -> io::Result<Option<S::End>> {
+        // Ends with the input, as above.
+        for _ in 0..u64::MAX {
+            let Some(line) = self.input.next_line()? else {
+                break;
+            };
+            match do_line(rt, line, &mut self.desk, study) {
+                Ok(None) => {}
+                Ok(end) => return Ok(end),
+                Err(failure) => print_answer(rt, Err(failure))?,
+            }
+        }
+        Ok(None)
+    }
 }
 
 // A study that lines are done to, until one of them ends it.
@@ -108,27 +134,6 @@ impl Worked for SealedStudy<'_> {
             StudyCommand::Seal | StudyCommand::Change(_) => Err(Failure::NotNow),
         }
     }
-}
-
-// Does lines until one ends the study, or the input ends.
-fn do_lines<S: Worked>(
-    rt: &HostRuntime,
-    input: &mut Input,
-    desk: &mut Desk,
-    study: &mut S,
-) -> io::Result<Option<S::End>> {
-    // Ends with the input, as above.
-    for _ in 0..u64::MAX {
-        let Some(line) = input.next_line()? else {
-            break;
-        };
-        match do_line(rt, line, desk, study) {
-            Ok(None) => {}
-            Ok(end) => return Ok(end),
-            Err(failure) => print_answer(rt, Err(failure))?,
-        }
-    }
-    Ok(None)
 }
 
 fn do_line<S: Worked>(
