@@ -1,5 +1,5 @@
 // The failure ages of any source: how many there are, their failures, and the table of gaps.
-ghost use Rattle.std.specs.Prelude.{◌≡◌, ◌≤◌, ◌++◌, length, drop};
+ghost use Rattle.std.specs.Prelude.{◌≡◌, ◌≤◌, ◌++◌, length, drop, nat_le};
 ghost use Rattle.units.specs.Refusals.{answer};
 ghost use Rattle.std.specs.Iterator.{YieldsFirstBy, item_count};
 ghost use Rattle.units.specs.Hours.{age_ticks};
@@ -79,29 +79,42 @@ pub fn failures_up_to<S: Source>(source: &S, last: Age) -> u32
         .sum()
 }
 
+// The most failure ages of a source, since it has no more failures.
+const MOST_AGES: usize = 1_024;
+
 // Writes the gaps of the failure ages up to the last, and answers their number.
 pub fn list_gaps<S: Source>(source: &S, last: Age, memory: &mut [Gap]) -> Result<usize, Refusal>
     ensures answer { answer result ≡ list_answer (length (ages (S.counts source.now).failed last.0)) memory.old }
     ensures memory { memory.new ≡ list_memory (length (ages (S.counts source.now).failed last.0)) (gaps (S.counts source.now).watched (S.counts source.now).failed last.0) memory.old }
 {
-    let count = count_failure_ages(source, last);
-    if count > memory.len() {
+    if !has_room(source, last, memory.len()) {
         return Err(Refusal::MemoryTooShort);
     }
-    write_gaps(source, last, memory);
-    Ok(count)
+    Ok(write_gaps(source, last, memory))
 }
 
-fn write_gaps<S: Source>(source: &S, last: Age, memory: &mut [Gap])
-    requires { length (ages (S.counts source.now).failed last.0) ≤ length memory.old }
-    ensures { memory.new ≡ gaps (S.counts source.now).watched (S.counts source.now).failed last.0 ++ drop (length (ages (S.counts source.now).failed last.0)) memory.old }
+// Whether there is room for the gaps of the failure ages up to the last. They are counted only where there might be none.
+fn has_room<S: Source>(source: &S, last: Age, room: usize) -> bool
+    ensures { result ≡ nat_le (length (ages (S.counts source.now).failed last.0)) room }
 {
-    // Written by index: of memory that `iter_mut` went over, a proof knows the length alone.
+    MOST_AGES <= room || count_failure_ages(source, last) <= room
+}
+
+// Writes the gaps, and answers their number.
+fn write_gaps<S: Source>(source: &S, last: Age, memory: &mut [Gap]) -> usize
+    requires { length (ages (S.counts source.now).failed last.0) ≤ length memory.old }
+    ensures count { result ≡ length (ages (S.counts source.now).failed last.0) }
+    ensures memory { memory.new ≡ gaps (S.counts source.now).watched (S.counts source.now).failed last.0 ++ drop (length (ages (S.counts source.now).failed last.0)) memory.old }
+{
+    let mut count = 0;
     let mut from = Age(0);
+    // Written by index: of memory that `iter_mut` went over a proof knows the length alone.
     for (i, age) in failure_ages(source, last).enumerate() {
         memory[i] = gap_between(source, from, age);
         from = age;
+        count = i + 1;
     }
+    count
 }
 
 // The gap from one age to another: the failures at its end, and its exposure.

@@ -7,11 +7,11 @@ use Rattle.sources.proofs.gaps.write_gaps.Goals as goal
 
 pub loop-i-init : goal.loop-i-init
 loop-i-init g c =
-    rw (c.into_iter-i-iterator.ensures.into_iter_gives, c.enumerate-i-items.ensures.count, c.enumerate-i-items.ensures.source, c.failure_ages.ensures) record { number = omega arith; written = refl; rest = refl }
+    rw (c.into_iter-i-iterator.ensures.into_iter_gives, c.enumerate-i-items.ensures.count, c.enumerate-i-items.ensures.source, c.failure_ages.ensures) (refl, record { number = omega arith; written = refl; rest = refl })
 
 -- the next gap has a place
 room : (g : given.Over) (c : goal.After-gap_between g) → c.in-Some.i < length (ages (g.S.Source.counts c.args.source.now).failed c.args.last.0)
-room g c = omega (arith, c.loop-i.invariant.number, ap length c.in-Some.ensures.steps.0, c.in-Some.ensures.steps.1)
+room g c = omega (arith, c.loop-i.invariant.1.number, ap length c.in-Some.ensures.steps.0, c.in-Some.ensures.steps.1)
 
 pub offset_bounds-memory-i : goal.offset_bounds-memory-i
 offset_bounds-memory-i g c =
@@ -25,8 +25,11 @@ bounds-memory-i g c = omega (arith, room g c, c.requires, c.loop-i.auto.memory)
 pub loop-i-preserved : goal.loop-i-preserved
 loop-i-preserved g c =
     let h = c.in-Some.ensures.steps in
-    written_more _ _ _ _ _ _ c.loop-i.invariant h.0 h.1 h.2 (omega (arith, c.requires, c.loop-i.auto.memory)) c.gap_between.ensures
+    (omega (arith, h.1, h.2), written_more _ _ _ _ _ _ c.loop-i.invariant.1 h.0 h.1 h.2 (omega (arith, c.requires, c.loop-i.auto.memory)) c.gap_between.ensures)
 
-pub returns : goal.returns
+pub returns-clause-count : goal.returns-clause-count
+returns-clause-count g c = omega (arith, c.loop-i.invariant.0, c.loop-i.invariant.1.number, ap length c.in-None.ensures.steps.0.0)
+
+pub returns-clause-memory : goal.returns-clause-memory
 unfolding gaps
-returns g c = written_all _ c.loop-i.invariant c.in-None.ensures.steps.0.0
+returns-clause-memory g c = written_all _ c.loop-i.invariant.1 c.in-None.ensures.steps.0.0
