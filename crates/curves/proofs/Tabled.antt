@@ -1,8 +1,12 @@
 -- The table of gaps of counts gives their pieces, scores and steps.
-use Rattle.std.proofs.Common.{◌≡◌, ℕ, zero, suc, ◌+◌, ◌-◌, ◌<◌, ◌≤◌, cond, eqb, List, [], ◌∷◌, ◌++◌, map, length, get_or, take, drop, set, ◌+ℤ◌, sum_by, sym, refl, ap, ◌∙◌, subst, ap₂, arith}
+use Rattle.std.proofs.Common.{◌≡◌, ℕ, zero, suc, ◌+◌, ◌-◌, ◌<◌, ◌≤◌, cond, eqb, List, [], ◌∷◌, ◌++◌, map, length, get_or, take, drop, set, Ok, ◌+ℤ◌, sum_by, sym, refl, ap, ◌∙◌, subst, ap₂, arith}
 use Rattle.std.specs.List.{AllByRecursion}
-use Rattle.std.proofs.lemmas.List.{get_or-take, map-append, take_more_set, take_at, length-append, length-drop}
+use Rattle.std.proofs.lemmas.List.{append_assoc, drop-append-le, drop-set-lt, get_or-take, map-append, take-append-drop, take-take, take_more_set, take_at, length-append, length-drop}
+use Rattle.std.proofs.lemmas.List.Sums.{sum_by-cons}
+use Rattle.std.proofs.lemmas.Slice.{drop-append-drop}
+use Rattle.std.proofs.lemmas.Bool.Decides.{nat_tests}
 use Rattle.std.proofs.lemmas.Bool.{cond-true, le-leb}
+use Rattle.arith.specs.Sums.{total}
 use Rattle.arith.specs.Rivals.{Direction, falling, rising}
 use Rattle.isotonic.specs.declared.blocks.Block.{Block}
 use Rattle.isotonic.specs.Laws.{limit}
@@ -15,7 +19,7 @@ use Rattle.pooling.specs.Scores.{rate_score, blocks_score}
 use Rattle.pooling.specs.declared.rates.Rate.{Rate}
 use Rattle.pooling.specs.Terms.{score_append}
 use Rattle.sources.specs.Ages.{ages}
-use Rattle.sources.specs.Gaps.{gap, gaps_from, gaps, list_memory}
+use Rattle.sources.specs.Gaps.{gap, gaps_from, gaps, list_answer, list_memory}
 use Rattle.sources.specs.declared.gaps.Gap.{Gap}
 use Rattle.curves.specs.Curves.{left_blocks, right_blocks, block_step, trough_steps, steps, score}
 use Rattle.curves.specs.Fits.{step_made}
@@ -38,6 +42,27 @@ blocks_inside falling [] light = tt
 blocks_inside direction (x ∷ xs) light =
     subst (AllByRecursion (Inside (length (x ∷ xs)))) (sym (fit_rises direction (x ∷ xs) light)) (rising_inside (order_laws direction) (x ∷ xs) light (omega arith) x)
 
+-- an accepted listing has room for the gaps
+pub listed_count : (k count : ℕ) (memory : List Gap) → Ok count ≡ list_answer k memory → (count ≡ k) × (k ≤ length memory)
+listed_count k count memory e = grind (arith, nat_tests, e)
+
+-- gaps that are listed in the first places of memory stand there, and the rest stays
+pub listed_front : (k room : ℕ) (gs before : List Gap) → k ≤ length (take room before) → room ≤ length before → list_memory k gs (take room before) ++ drop room before ≡ gs ++ drop k before
+listed_front k room gs before fits within =
+    ap (λ (ms : List Gap). ms ++ drop room before) (cond-true _ _ _ (le-leb k (length (take room before)) fits))
+    ∙ append_assoc gs (drop k (take room before)) (drop room before)
+    ∙ ap (λ (ms : List Gap). gs ++ ms) (sym (drop-append-le k (take room before) (drop room before) fits) ∙ ap (drop k) (take-append-drop room before))
+
+-- the failures of the gaps are those at the ages
+gaps_failures : (n f : ℕ → ℕ) (end lo : ℕ) (xs : List ℕ) → sum_by (λ g. g.failures) (take (length xs) (gaps_from n f lo (xs ++ (end ∷ [])))) ≡ total f xs
+gaps_failures n f end lo [] = refl
+gaps_failures n f end lo (x ∷ xs) =
+    omega (arith, sum_by-cons (λ g. g.failures) (gap n f lo x) (take (length xs) (gaps_from n f x (xs ++ (end ∷ [])))), gaps_failures n f end x xs)
+
+pub table_failures : (n f : ℕ → ℕ) (end k : ℕ) (xs : List ℕ) (gs : List Gap) → k ≡ length xs → take (k + 1) gs ≡ table n f xs end → sum_by (λ g. g.failures) (take k gs) ≡ total f xs
+table_failures n f end k xs gs e is =
+    ap (sum_by (λ (g : Gap). g.failures)) (sym (take-take k (k + 1) gs (omega arith)) ∙ ap (take k) is ∙ ap (λ (m : ℕ). take m (table n f xs end)) e) ∙ gaps_failures n f end 0 xs
+
 module _ (n f : ℕ → ℕ) (end : ℕ) where
   table_row : (lo : ℕ) (ys : List ℕ) (i : ℕ) → i ≤ length ys → get_or (gaps_from n f lo (ys ++ (end ∷ []))) i no_gap ≡ gap n f (get_or (lo ∷ ys) i end) (get_or ys i end)
   table_row lo [] zero h = refl
@@ -59,24 +84,14 @@ module _ (n f : ℕ → ℕ) (end : ℕ) where
   gap_age lo (y ∷ ys) rest (suc i) h = gap_age y ys rest i (omega arith)
 
   -- the gaps of k ages, listed in memory, and then the gap from the last of them
-  pub table_listed : (last k : ℕ) (before ms : List Gap) (v : Gap) → k ≡ length (ages f last) → 0 < k → k < length before → ms ≡ list_memory (length (ages f last)) (gaps n f last) before
-      → v ≡ gap n f (gap_at ms (k - 1)).age.0 end → take (k + 1) (set ms k v) ≡ table n f (ages f last) end
+  pub table_listed : (last k oldest : ℕ) (before ms : List Gap) (v : Gap) → k ≡ length (ages f last) → 0 < k → k < length before → ms ≡ gaps n f last ++ drop k before
+      → v ≡ gap n f (gap_at ms (k - 1)).age.0 oldest → oldest ≡ end → take (k + 1) (set ms k v) ≡ table n f (ages f last) end
   unfolding gaps
-  table_listed last k before ms v e some room memory is =
+  table_listed last k oldest before ms v e some room whole is at_end =
       take_more_set ms k v inside ∙ (λ i. first i ++ (value i ∷ [])) ∙ sym (gaps_push 0 (ages f last))
     where
-      whole : ms ≡ gaps_from n f 0 (ages f last) ++ drop (length (ages f last)) before
-      whole = memory ∙ cond-true _ _ _ (le-leb (length (ages f last)) (length before) (omega arith))
-
       inside : k < length ms
-      inside =
-          omega (
-            arith,
-            ap length whole,
-            length-append (gaps_from n f 0 (ages f last)) (drop (length (ages f last)) before),
-            gaps_length 0 (ages f last),
-            length-drop (length (ages f last)) before,
-          )
+      inside = omega (arith, ap length whole, length-append (gaps_from n f 0 (ages f last)) (drop k before), gaps_length 0 (ages f last), length-drop k before)
 
       first : take k ms ≡ gaps_from n f 0 (ages f last)
       first = ap (take k) whole ∙ take_at (gaps_from n f 0 (ages f last)) _ k (gaps_length 0 (ages f last) ∙ sym e)
@@ -86,8 +101,14 @@ module _ (n f : ℕ → ℕ) (end : ℕ) where
 
       value : v ≡ gap n f (get_or (0 ∷ ages f last) (length (ages f last)) end) end
       value =
-          is ∙ ap (λ (x : ℕ). gap n f x end)
-          (ap (λ (ys : List Gap). (get_or ys (k - 1) no_gap).age.0) whole ∙ gap_age 0 (ages f last) (drop (length (ages f last)) before) (k - 1) (omega arith) ∙ ap (λ (i : ℕ). get_or (0 ∷ ages f last) i end) up)
+          is ∙ ap₂ (λ (x y : ℕ). gap n f x y)
+          (ap (λ (ys : List Gap). (get_or ys (k - 1) no_gap).age.0) whole ∙ gap_age 0 (ages f last) (drop k before) (k - 1) (omega arith) ∙ ap (λ (i : ℕ). get_or (0 ∷ ages f last) i end) up) at_end
+
+  pub rest_listed : (last k : ℕ) (before ms : List Gap) (v : Gap) → k ≡ length (ages f last) → ms ≡ gaps n f last ++ drop k before → drop (k + 1) (set ms k v) ≡ drop (k + 1) before
+  unfolding gaps
+  rest_listed last k before ms v e whole =
+      drop-set-lt (k + 1) ms k v (omega arith) ∙ ap (drop (k + 1)) whole
+      ∙ drop-append-drop k before (gaps_from n f 0 (ages f last)) (k + 1) (omega arith) (gaps_length 0 (ages f last) ∙ sym e)
 
 module _ (n f : ℕ → ℕ) (xs : List ℕ) (end : ℕ) (gs : List Gap) (is : take (length xs + 1) gs ≡ table n f xs end) where
   abbrev k : ℕ

@@ -6,3 +6,4 @@ pub mod Theorems
 pub mod Tables
 pub mod Fits
 pub mod Splits
+pub mod Texts

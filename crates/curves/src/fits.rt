@@ -1,5 +1,5 @@
 // The curve call, for every source.
-ghost use Rattle.std.specs.Prelude.{◌≡◌, ◌+◌, ◌-◌, ◌<◌, ◌≤◌, length, take, drop, IfOk};
+ghost use Rattle.std.specs.Prelude.{◌≡◌, ◌+◌, ◌-◌, ◌<◌, ◌≤◌, length, take, drop, IfOk, IfErr};
 ghost use Rattle.units.specs.Refusals.{answer};
 ghost use Rattle.pooling.specs.Pooling.{answered};
 ghost use Rattle.sources.specs.Ages.{ages, oldest};
@@ -15,9 +15,7 @@ use crate::step::Step;
 use crate::table::Table;
 use crate::turning::LightTable;
 use pooling::{Block, Rate, Turned};
-use sources::{
-    Gap, Source, count_failure_ages, failures_up_to, gap_between, list_gaps, total_time_on_test,
-};
+use sources::{Gap, Source, gap_between, list_gaps, total_time_on_test};
 use units::{Age, Exposure, Refusal};
 
 // A fitted curve; its steps stand in the step memory.
@@ -74,30 +72,29 @@ fn failures_aside<S: Source>(source: &S, shape: Shape) -> u32
     }
 }
 
-// Whether so many counted ages can be fitted with so many steps and work places.
-fn check_room(count: usize, steps: usize, works: usize) -> Result<(), Refusal>
-    ensures { answer result ≡ answered (fit_refusal count steps works) tt }
+// Writes the gaps of the counted ages, and last the gap from there to the oldest age, and answers the number of counted ages. Refused as a fit with so many steps and work places is; a refusal changes nothing.
+fn list_table<S: Source>(
+    source: &S,
+    last: Age,
+    steps: usize,
+    works: usize,
+    gaps: &mut [Gap],
+) -> Result<usize, Refusal>
+    requires { works ≤ length gaps.old }
+    ensures answer { answer result ≡ answered (fit_refusal (length (ages (S.counts source.now).failed last.0)) steps works) (length (ages (S.counts source.now).failed last.0)) }
+    ensures table { IfOk result (λ count. take (count + 1) gaps.new ≡ table (S.counts source.now).watched (S.counts source.now).failed (ages (S.counts source.now).failed last.0) (oldest (S.counts source.now).watched)) }
+    ensures rest { IfOk result (λ count. drop (count + 1) gaps.new ≡ drop (count + 1) gaps.old) }
+    ensures refused { IfErr result (λ _. gaps.new ≡ gaps.old) }
 {
+    // One place is kept for the last gap.
+    let room = steps.min(works);
+    let count = list_gaps(source, last, &mut gaps[..room.saturating_sub(1)])?;
     if count == 0 {
         return Err(Refusal::NothingThere);
     }
-    if steps.min(works) <= count {
-        return Err(Refusal::MemoryTooShort);
-    }
-    Ok(())
-}
-
-// Writes the gaps of the counted ages, and last the gap from there to the oldest age.
-fn list_table<S: Source>(source: &S, last: Age, count: usize, gaps: &mut [Gap])
-    requires count { count ≡ length (ages (S.counts source.now).failed last.0) }
-    requires some { 0 < count }
-    requires room { count < length gaps.old }
-    ensures table { take (count + 1) gaps.new ≡ table (S.counts source.now).watched (S.counts source.now).failed (ages (S.counts source.now).failed last.0) (oldest (S.counts source.now).watched) }
-    ensures rest { drop (count + 1) gaps.new ≡ drop (count + 1) gaps.old }
-{
-    list_gaps(source, last, gaps).unwrap();
     let from = gaps[count - 1].age;
     gaps[count] = gap_between(source, from, source.oldest_age());
+    Ok(count)
 }
 
 // The left pieces before the turning gap of the shape.
@@ -134,14 +131,13 @@ pub fn fit_curve<S: Source>(
     ensures faultless { IfOk result (λ a. Fault (S.counts source.now) shape (shown a steps.new) → ⊥) }
 {
     let last = last_counted_age(source, shape);
-    let count = count_failure_ages(source, last);
-    check_room(count, steps.len(), work.places())?;
+    let works = work.places();
     let Work {
         gaps,
         blocks,
         scores,
     } = work;
-    list_table(source, last, count, gaps);
+    let count = list_table(source, last, steps.len(), works, gaps)?;
     let table = Table { gaps, count };
     let turn = turn_of(shape, &table, blocks, scores);
     let split = Split { table, turn };
@@ -150,7 +146,7 @@ pub fn fit_curve<S: Source>(
         steps: curve.steps,
         turning_gap: turn + 1,
         score: curve.score,
-        counted: failures_up_to(source, last),
+        counted: table.failures(),
         set_aside: failures_aside(source, shape),
         time_on_test: total_time_on_test(source),
     })

@@ -1,5 +1,5 @@
 // The table of gaps that a fit works on, and what is read from it.
-ghost use Rattle.std.specs.Prelude.{◌≡◌, ◌+◌, ◌^◌, ◌<◌, ◌≤◌, length};
+ghost use Rattle.std.specs.Prelude.{◌≡◌, ◌+◌, ◌^◌, ◌<◌, ◌≤◌, length, take, sum_by};
 ghost use Rattle.curves.specs.Pieces.{rate_of};
 ghost use Rattle.curves.specs.Tables.{piece_at, table_age};
 
@@ -29,6 +29,14 @@ fn rate_of(failures: u32, exposure: Exposure) -> Rate
 }
 
 impl Table<'_> {
+    // The failures at the counted ages.
+    pub(crate) fn failures(&self) -> u32
+        requires { sum_by (λ g. g.failures) (take self.now.count self.now.gaps.now) < 2 ^ 32 }
+        ensures { result ≡ sum_by (λ g. g.failures) (take self.now.count self.now.gaps.now) }
+    {
+        self.gaps[..self.count].iter().map(|gap| gap.failures).sum()
+    }
+
     // A piece of a side, by its number in the order in which the pieces are stacked: on the right the last comes first.
     pub(crate) fn piece(&self, side: Side, i: usize) -> Rate
         requires { i < self.now.count }
