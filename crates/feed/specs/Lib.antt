@@ -1,0 +1,3 @@
+pub mod BatchRules
+pub mod Batches
+pub mod BatchLaws
