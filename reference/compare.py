@@ -4,9 +4,10 @@
     python3 reference/compare.py [LEDGERS [SEED]]
 
 It makes ledgers (sound lines, lines with errors, bytes that are no text, sound and damaged archives, lists to
-pool, benches, release sheets, long ledgers and long lines), gives each to crates/ledger/out/ledger (`rt run` in crates/ledger
-builds it) and to reference/ledger.py, and compares the answers byte for byte. It says how many it compared and
-which answers were met, and ends with status 1 where any differ.
+pool, benches, release sheets, curves of studies and benches, long ledgers and long lines), gives each to
+crates/ledger/out/ledger (`rt run` in crates/ledger builds it) and to reference/ledger.py, and compares the answers byte for
+byte. It says how many it compared and which answers were met, and ends with status 1 where any differ, or where
+reference/ledger.py answers a worked case of docs/RULES.md otherwise than is written there.
 """
 import pathlib
 import random
@@ -30,10 +31,30 @@ OTHER_LINES = """# comment|#|| , ,\t| # none|hello|seal it|archive all|row|enter
     |memory x|load 1|SEAL|row row 1 0 1 FAILED|pool|pool rate 1/2|pool 1/2|Pool rates 1/2|bench|bench 10
     |bench 10 x|bench 10 5 -1|bench 4294967296 5|bound|bound 95 90|bound 80|bound 095|bound 95.0|note
     |note 1 4|note 1 4 10 1|note 1 4 x|note 1 4 4294967296|growth 1|growths|room blocks|room steps x
-    |room block 5|room words 5 5|room work 5|fit falling study""".split("|")
+    |room block 5|room words 5 5|room work|room work 5 5|room works 5|fit|fit falling|fit study|fit study falling
+    |fit falling lives|fit u-shaped study|fit Rising bench|fit falling study 1|fit ushaped bench bench
+    |fits falling study|fit rising, bench|fit falling sealed""".split("|")
 LIMIT = 2_147_483_648
+LAST_AGE = 2_097_151
+SHAPES = "falling rising ushaped".split()
 OTHER_PIECES = """1 / 1/ /1 1/2/3 1//2 1/0 0/0 5/4 -1/2 +1/2 1/-2 1.0/2 1/x 0x1/2 007/0008 1/4294967295 1/4294967296
     4294967296/1 4294967295/1 4294967295/4294967295 2147483648/2147483648 0/2147483648 0/2147483649""".split()
+
+# Ledgers of the worked cases of curves, each with its answers from `sealed` or `bench` on.
+FIVE = "enter 1001 0 1 0|enter 1002 0 2 0|enter 1003 0 6 0|enter 1004 0 7 0|"
+WORKED = [
+    (FIVE + "enter 1005 0 8 1|seal|fit ushaped study|fit falling study|fit rising study",
+     "sealed 5|0 2 2 9|2 6 0 12|6 7 1 2|7 8 1 1|curve 4 3 -349952 4 0 24"
+     "|0 2 2 9|2 7 2 14|7 8 0 1|curve 3 5 -652380 4 0 24"
+     "|0 1 0 5|1 6 2 16|6 7 1 2|7 8 1 1|curve 4 1 -458752 4 0 24"),
+    (FIVE + "seal|fit falling study|fit ushaped study",
+     "sealed 4|0 2 2 7|2 7 2 9|curve 2 5 -521308 4 0 16|0 2 2 7|2 6 0 8|6 7 1 1|curve 3 3 -236892 3 1 16"),
+    ("bench 10 38 4 9 11 18 27 38|fit falling bench",
+     "bench|0 11 3 101|11 18 1 49|18 27 1 54|27 38 1 55|curve 4 7 -2121444 6 0 259"),
+    ("bench 10 50 4 9 11 18 27 38|fit falling bench",
+     "bench|0 11 3 101|11 18 1 49|18 27 1 54|27 38 1 55|38 50 0 48|curve 5 7 -2121444 6 0 307"),
+    ("enter 1 0 1 0|seal|fit falling study|fit ushaped study", "sealed 1|0 1 1 1|curve 1 2 0 1 0 1|refused 12"),
+]
 
 
 class Maker:
@@ -45,12 +66,19 @@ class Maker:
     def archive(self, lives):
         """The words of an archive with random lives."""
         rng = self.rng
-        words = [1 << 28 | 1, 2 << 28 | lives]
+        made = []
         for _ in range(lives):
             entry = rng.choice([0, 1, 5, 2_097_150, rng.randrange(2_097_151)])
             exit = rng.choice([entry + 1, 2_097_151, rng.randrange(entry + 1, 2_097_152)])
             serial = rng.choice([1, 268_435_455, rng.randrange(1, 2**28)])
-            words += [3 << 28 | serial, 4 << 28 | entry, 5 << 28 | exit, 6 << 28 | rng.choice([0, 1, 2, 4, 5, 6])]
+            made.append((serial, entry, exit, rng.choice([0, 1, 2, 4, 5, 6])))
+        return self.words(made)
+
+    def words(self, lives):
+        """The words of an archive: of each life a serial, an entry, an exit, and a status, 4 more where struck."""
+        words = [1 << 28 | 1, 2 << 28 | len(lives)]
+        for serial, entry, exit, mark in lives:
+            words += [3 << 28 | serial, 4 << 28 | entry, 5 << 28 | exit, 6 << 28 | mark]
         return words + [ledger.check_word(words)]
 
     def damage(self, words):
@@ -136,6 +164,106 @@ class Maker:
         lines = ["bench " + " ".join(map(str, [units, stop] + ages)), "bound 95", "bound 90"]
         return "\n".join(lines[:rng.randint(1, 3)])
 
+    def ages(self):
+        """Ages for a curve, in order: with ties, evenly spaced, all the same, or near the highest age."""
+        rng = self.rng
+        length = rng.choice([0, 1, 2, 3, 3, 4, 5, 6, 8, 8, 12, 16, 40 if rng.random() < 0.3 else 7])
+        change = rng.randrange(8)
+        if change == 0:
+            ages = [rng.choice([1, 2, 7, LAST_AGE - 1, LAST_AGE, rng.randint(1, LAST_AGE)])] * length
+        elif change == 1:
+            every = rng.choice([1, 2, 3, 1000, LAST_AGE // max(length, 1)])
+            ages = [(i + 1) * every for i in range(length)]
+        elif change in (2, 6):  # the same gaps from both ends
+            gaps = [rng.randint(1, 4) for _ in range((length + 1) // 2)]
+            gaps = gaps + gaps[::-1][rng.randrange(2):]
+            ages = [sum(gaps[:i + 1]) for i in range(len(gaps))]
+        elif change == 3:
+            ages = [LAST_AGE - rng.choice([0, 1, 2, rng.randrange(40)]) for _ in range(length)]
+        elif change == 4:
+            ages = rng.sample(range(1, LAST_AGE + 1), length)
+        elif change == 5:  # many early, few, many late
+            ages = [rng.choice([rng.randint(1, 10), rng.randint(1, 100), rng.randint(90, 100)]) for _ in range(length)]
+        else:
+            ages = [rng.randint(1, rng.choice([3, 6, 12, 40])) for _ in range(length)]
+        return sorted(ages)
+
+    def lives(self):
+        """Lives (serial, entry, exit, mark) for a curve."""
+        rng = self.rng
+        ages = self.ages()
+        change = rng.randrange(6)
+        if change < 2:  # all from the beginning
+            lives = [(0, age) for age in ages]
+        elif change < 4:  # each followed by the next one, so that as many are watched in each tick
+            lives = [(before, age) for before, age in zip([0] + ages, ages) if before < age]
+            lives *= rng.choice([1, 1, 2, 3])
+            if rng.random() < 0.6:
+                return [(5, entry, exit, 0) for entry, exit in lives]
+        else:
+            lives = [(rng.choice([0, 0, age - 1, rng.randrange(age)]), age) for age in ages]
+        marks = rng.choice([[0], [0, 0, 0, 1], [0, 1, 2], [0, 0, 0, 4, 5], [0, 0, 0, 1, 2, 4, 5, 6]])
+        lives = [(rng.randint(1, 9), entry, exit, rng.choice(marks)) for entry, exit in lives]
+        if lives and rng.random() < 0.5:  # one that was watched as long as the oldest, or longer
+            oldest = lives[-1][2]
+            until = min(LAST_AGE, oldest + rng.choice([0, 1, 1, 2, 5, LAST_AGE]))
+            lives.append((9, rng.choice([0, 0, until - 1]), until, rng.choice([1, 2, 0])))
+        if rng.random() < 0.1:  # only the oldest fails
+            lives = [life[:3] + (1,) for life in lives[:-1]] + lives[-1:]
+        if rng.random() < 0.5:
+            rng.shuffle(lives)
+        return lives
+
+    def fits(self, source, failure_ages):
+        """Some fits of a source, with rooms that are at times just large enough or just too small."""
+        rng = self.rng
+        lines = []
+        rooms = rng.sample(["steps", "work"], rng.choice([0, 0, 1, 2]))
+        for room in rooms:
+            lines.append("room %s %d" % (room, max(0, failure_ages + rng.choice([-1, 0, 0, 1, 1, 2]))))
+        for shape in rng.sample(SHAPES, rng.randint(1, 3)):
+            lines.append("fit %s %s" % (shape, source))
+        if rng.random() < 0.9:
+            lines += ["room %s 1025" % room for room in rooms]
+        return lines
+
+    def study_curves(self):
+        """A study by rows, lives or an archive, and curves of it."""
+        rng = self.rng
+        lives = self.lives()
+        lines = ["memory 1024"] if rng.random() < 0.95 else []
+        if rng.random() < 0.3:
+            lines.append("load " + " ".join("%08x" % word for word in self.words(lives)))
+        else:
+            for serial, entry, exit, mark in lives:
+                if rng.random() < 0.5:
+                    lines.append("enter %d %d %d %d" % (serial, entry, exit, mark % 4))
+                else:
+                    lines.append("%d,%.2f,%.2f,%s" % (serial, entry / 4, exit / 4, WORDS[mark % 4]))
+            lines += ["strike %d" % place for place, life in enumerate(lives) if life[3] >= 4]
+        if rng.random() < 0.1:
+            lines.append("fit %s study" % rng.choice(SHAPES))
+        if rng.random() < 0.95:
+            lines.append("seal")
+        return "\n".join(lines + self.fits("study", len({life[2] for life in lives if life[3] == 0})))
+
+    def bench_curves(self):
+        """A bench, mostly sound, and curves of it."""
+        rng = self.rng
+        ages = self.ages()
+        last = ages[-1] if ages else 1
+        stop = rng.choice([last, last, min(LAST_AGE, last + 1), min(LAST_AGE, last + 3), LAST_AGE])
+        units = len(ages) + rng.choice([0, 0, 1, 2, 1024 - len(ages)])
+        change = rng.randrange(20)
+        if change == 0:
+            units = rng.choice([0, max(0, len(ages) - 1), 1025])
+        elif change == 1:
+            stop = rng.choice([0, last - 1, LAST_AGE + 1])
+        elif change == 2:
+            rng.shuffle(ages)
+        line = "bench " + " ".join(map(str, [units, stop] + ages))
+        return "\n".join([line] + self.fits("bench", len(set(ages))))
+
     def notes(self):
         """Some notes, and growth."""
         rng = self.rng
@@ -161,7 +289,7 @@ class Maker:
 
     def line(self):
         rng = self.rng
-        kind = rng.randrange(31)
+        kind = rng.randrange(38)
         if kind < 6:
             row = [rng.choice(SERIALS + [5] * 20), self.hours(), self.hours(), rng.choice(WORDS * 8 + OTHER_WORDS)]
             blank = rng.choice([" ", ",", "\t", ", ", " ,\t "])
@@ -185,13 +313,19 @@ class Maker:
             return "room words %d" % rng.choice([0, 2, 3, 7, 11, 50, 4099, 8192, 8193])
         if kind == 19:
             places = rng.choice([0, 1, 2, 5, 63, 64, 65, 1024, 1024, 1025, 8192, 8193])
-            return "room %s %d" % (rng.choice(["blocks", "steps"]), places)
+            return "room %s %d" % (rng.choice(["blocks", "steps", "work"]), places)
         if kind < 24:
             return self.pool()
         if kind < 27:
             return self.bench()
         if kind < 29:
             return self.notes()
+        if kind < 32:
+            return self.study_curves()
+        if kind < 35:
+            return self.bench_curves()
+        if kind == 35:
+            return "fit %s %s" % (rng.choice(SHAPES), rng.choice(["study", "bench"]))
         return rng.choice(OTHER_LINES)
 
     def spoil(self, line):
@@ -239,6 +373,46 @@ def long_ledgers(rng):
     full = b"".join(b"note %d %d 1000000\nnote %d 0 1\n" % (row, rng.randint(0, 10**6), row) for row in range(66))
     yield full + b"growth\nroom steps 63\ngrowth\nroom steps 64\ngrowth\n"
     yield b"pool rates" + b" 1/1" * 100_000 + b"\nbench 9 9" + b" 9" * 100_000 + b"\nbound 90\n"
+    yield from long_curves(rng)
+
+
+def long_curves(rng):
+    """Ledgers with curves of many lives; U-shaped ones of fewer ages, since trying every run takes long."""
+    maker = Maker(rng)
+
+    def enter(ages):
+        return "".join("enter %d 0 %d 0\n" % (i % 9 + 1, age) for i, age in enumerate(ages))
+
+    def bench(ages, stop):
+        return "bench 1024 %d %s\n" % (stop, " ".join(map(str, sorted(ages))))
+
+    def fits(source, shapes=SHAPES):
+        return "".join("fit %s %s\n" % (shape, source) for shape in shapes)
+
+    # 1,024 different failure ages. The last is set aside in a rising fit, which then needs a place less.
+    ages = rng.sample(range(1, LAST_AGE), 1024)
+    one_way = SHAPES[:2]
+    yield (enter(ages) + "seal\n" + fits("study", one_way)).encode()
+    yield (bench(ages, max(ages)) + fits("bench", one_way)).encode()
+    yield (bench(range(1, 1025), 1024) + fits("bench", one_way)).encode()
+    small = "".join("room steps %d\nroom work %d\n" % rooms + fits("bench") for rooms in ((1023, 1025), (1025, 1023)))
+    edge = "room steps 1024\nroom work 1024\n" + fits("bench", one_way)
+    yield (bench(ages, max(ages)) + small + edge).encode()
+    # 1,023 different failure ages and a life that outlives them; loaded, with some struck.
+    lives = [(5, 0, age, rng.choice([0, 0, 0, 0, 4])) for age in ages[:1023]] + [(5, 0, LAST_AGE, 1)]
+    words = " ".join("%08x" % word for word in maker.words(lives))
+    yield ("load %s\nseal\n" % words + fits("study", one_way)).encode()
+    # 1,024 lives with fewer different failure ages, in all shapes.
+    for length in (40, 100, 150):
+        few = rng.sample(range(1, LAST_AGE), length)
+        many = few + rng.choices(few[:length // 2], k=1023 - length)
+        rng.shuffle(many)
+        yield (enter(many) + "enter 7 0 %d 1\nseal\n" % LAST_AGE + fits("study")).encode()
+        yield (bench(many, LAST_AGE) + fits("bench")).encode()
+    # All or half at one age, with the highest exposure that there is; and none.
+    for ages in ([LAST_AGE] * 1024, [LAST_AGE - 1] * 1023, [LAST_AGE - 1] * 512 + [LAST_AGE] * 512, [1] * 1023, []):
+        yield (bench(ages, LAST_AGE) + fits("bench")).encode()
+        yield (enter(ages) + "enter 7 %d %d 0\nseal\n" % (LAST_AGE - 1, LAST_AGE) + fits("study")).encode()
 
 
 def kind(answer):
@@ -255,11 +429,24 @@ def proved(text):
     return done.stdout if done.returncode == 0 else b"status %d\n" % done.returncode
 
 
+def wrongly_worked():
+    """How many worked cases reference/ledger.py answers otherwise than is written."""
+    wrong = 0
+    for text, wanted in WORKED:
+        lines = "\n".join(ledger.answers(text.replace("|", "\n").encode())).split("\n")
+        wanted = wanted.split("|")
+        if lines[-len(wanted):] != wanted:
+            wrong += 1
+            print("worked otherwise:", text, lines)
+    return wrong
+
+
 def main():
     ledgers = int(sys.argv[1]) if len(sys.argv) > 1 else 3000
     rng = random.Random(int(sys.argv[2]) if len(sys.argv) > 2 else 1)
     texts = list(long_ledgers(rng)) + [Maker(rng).text() for _ in range(ledgers)]
-    met, lines, differ = Counter(), 0, 0
+    texts += [text.replace("|", "\n").encode() for text, _ in WORKED]
+    met, lines, differ = Counter(), 0, wrongly_worked()
     for text in texts:
         answers = ledger.answers(text)
         lines += text.count(b"\n")

@@ -21,6 +21,7 @@ STATUS_WORDS = [b"FAILED", b"WITHDRAWN", b"RUNNING"]
 MOST_UNITS = 1024
 MOST_BULK = 2_147_483_648
 MOST_PIECES = {b"rates": 1024, b"shares": 64}
+SHAPES = [b"falling", b"rising", b"ushaped"]
 ROWS = 64
 MOST_TRIALS = 1_000_000
 # Percentiles in thousandths, for 1 to 10 failures.
@@ -370,7 +371,7 @@ def listed(lines, last):
 class Ledger:
     def __init__(self):
         self.study = Study(1024)
-        self.rooms = {b"words": 4099, b"blocks": 1024, b"steps": 1025}
+        self.rooms = {b"words": 4099, b"blocks": 1024, b"steps": 1025, b"work": 1025}
         self.releases = Releases()
         self.bench = None
 
@@ -383,7 +384,7 @@ class Ledger:
         """Does a line, and gives its answer. All its fields are read before anything is done."""
         name, rest = fields[0], fields[1:]
         others = {b"note": self.note, b"growth": self.growth, b"pool": self.pool, b"bench": self.new_bench,
-                  b"bound": self.bound, b"room": self.room}
+                  b"bound": self.bound, b"room": self.room, b"fit": self.fit}
         return others[name](rest) if name in others else self.study_command(name, rest, fields)
 
     def note(self, fields):
@@ -420,6 +421,18 @@ class Ledger:
         if self.bench is None:
             raise NotNow
         return "bound %d" % self.bench.bound(PERCENTILES[fields[0]])
+
+    def fit(self, fields):
+        count(fields, 2)
+        shape, source = fields
+        if shape not in SHAPES or source not in (b"study", b"bench"):
+            raise NotUnderstood
+        if not self.study.sealed if source == b"study" else self.bench is None:
+            raise NotNow
+        watches = (self.study if source == b"study" else self.bench).watches()
+        steps, *numbers = fit(shape, watches, self.rooms[b"steps"], self.rooms[b"work"])
+        last = "curve %d %d %d %d %d %d" % (len(steps), *numbers)
+        return listed(["%d %d %d %d" % step for step in steps], last)
 
     def room(self, fields):
         count(fields, 2)

@@ -7,7 +7,7 @@ use Rattle.lives.specs.Lives.{judge}
 use Rattle.lives.specs.Sheets.{plain_row, row_life}
 use Rattle.lives.specs.Studies.{Held, enter_after, enter_answer, strike_after, strike_answer}
 use Rattle.ledger.specs.declared.answers.Answer.{Answer}
-use Rattle.ledger.specs.declared.answers.Answer.TheVariants.{Open, Place, Struck, Loaded, Sealed, Room, Noted, Growth, Blocks, Bench, Bound}
+use Rattle.ledger.specs.declared.answers.Answer.TheVariants.{Open, Place, Struck, Loaded, Sealed, Room, Noted, Growth, Blocks, Bench, Bound, Curve}
 use Rattle.ledger.specs.declared.commands.Change.{Change}
 use Rattle.ledger.specs.declared.commands.Change.TheVariants.{Row, Enter, Strike, Load}
 
@@ -38,6 +38,7 @@ said (Growth n s) = another
 said (Blocks n) = another
 said Bench = another
 said (Bound n) = another
+said (Curve f) = another
 
 -- what is said of a change that is answered or refused
 abbrev pub outcome : Result Answer Refusal → Said

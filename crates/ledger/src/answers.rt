@@ -1,6 +1,7 @@
 // The answers to lines, as they are printed.
 use crate::failures::Failure;
 use crate::requests::Room;
+use curves::Fit;
 use std::{fmt, io};
 
 // How many words of an archive stand on a line.
@@ -20,6 +21,7 @@ pub enum Answer {
     Blocks(usize),
     Bench,
     Bound(u64),
+    Curve(Fit),
 }
 
 impl fmt::Display for Answer {
@@ -36,6 +38,16 @@ impl fmt::Display for Answer {
             Answer::Blocks(count) => write!(f, "blocks {count}"),
             Answer::Bench => f.write_str("bench"),
             Answer::Bound(bound) => write!(f, "bound {bound}"),
+            Answer::Curve(fit) => write!(
+                f,
+                "curve {} {} {} {} {} {}",
+                fit.steps,
+                fit.turning_gap,
+                fit.score,
+                fit.counted,
+                fit.set_aside,
+                fit.time_on_test.0
+            ),
         }
     }
 }

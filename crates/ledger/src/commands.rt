@@ -5,7 +5,10 @@ ghost use Rattle.ledger.specs.Commands.{life_of, row_serial, words_of};
 
 use crate::failures::Failure;
 use crate::reading::read_all;
-use crate::requests::{Request, parse_bench, parse_bound, parse_note, parse_pool, parse_room};
+use crate::requests::{
+    Request, parse_bench, parse_bound, parse_note, parse_pool, parse_room, read_shape,
+};
+use curves::Shape;
 use lines::fields::{begins_with, part};
 use lines::numbers::{archive_word, at_most, decimal, hours};
 use lives::{SheetRow, UncheckedLife};
@@ -28,6 +31,7 @@ pub enum StudyCommand<'a> {
     Change(Change<'a>),
     Seal,
     Archive,
+    Fit(Shape),
 }
 
 // A change to the open study. It has its words, where `Call` of the crate `history` borrows them.
@@ -75,6 +79,7 @@ fn parse_named<'a>(name: &[u8], fields: &[&'a [u8]]) -> Option<Command<'a>> {
         b"strike" => parse_strike(fields),
         b"seal" => alone(fields, Command::Study(StudyCommand::Seal)),
         b"archive" => alone(fields, Command::Study(StudyCommand::Archive)),
+        b"fit" => parse_fit(fields),
         b"growth" => alone(fields, Command::Request(Request::Growth)),
         b"room" => Some(Command::Request(parse_room(fields)?)),
         b"note" => Some(Command::Request(parse_note(fields)?)),
@@ -118,6 +123,19 @@ fn parse_strike<'a>(fields: &[&'a [u8]]) -> Option<Command<'a>> {
         return None;
     };
     Some(changing(Change::Strike(decimal(place)?)))
+}
+
+// A fit of the study or of the bench.
+fn parse_fit<'a>(fields: &[&'a [u8]]) -> Option<Command<'a>> {
+    let [shape, source] = fields else {
+        return None;
+    };
+    let shape = read_shape(shape)?;
+    match *source {
+        b"study" => Some(Command::Study(StudyCommand::Fit(shape))),
+        b"bench" => Some(Command::Request(Request::Fit(shape))),
+        _ => None,
+    }
 }
 
 fn parse_load<'a>(heap: Global, fields: &[&'a [u8]]) -> Result<Command<'a>, Failure> {

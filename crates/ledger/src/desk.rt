@@ -1,11 +1,13 @@
 // What a ledger keeps beside its studies: the memory that it lends, the release sheet and the bench run.
 use crate::answers::Answer;
 use crate::failures::Failure;
+use crate::fitting::fit_and_print;
 use crate::requests::{Bench, Note, Request, Room};
+use curves::Shape;
 use isotonic::Block;
 use pooling::{Poolable, pool_rising};
 use releases::{GrowthStep, ReleaseSheet};
-use sources::{BenchRun, Confidence};
+use sources::{BenchRun, Confidence, Source};
 use std::{fmt, io};
 use units::Refusal;
 
@@ -16,11 +18,14 @@ const FIRST_BLOCKS: u32 = 1024;
 
 const FIRST_STEPS: u32 = 1025;
 
+const FIRST_WORK: u32 = 1025;
+
 #[derive(Drop)]
 pub struct Desk {
     pub words: u32,
     blocks: u32,
     steps: u32,
+    work: u32,
     sheet: ReleaseSheet,
     bench: Option<Bench>,
 }
@@ -31,6 +36,7 @@ impl Desk {
             words: FIRST_WORDS,
             blocks: FIRST_BLOCKS,
             steps: FIRST_STEPS,
+            work: FIRST_WORK,
             sheet: ReleaseSheet::new(),
             bench: None,
         }
@@ -46,6 +52,7 @@ impl Desk {
             Request::PoolShares(shares) => print_blocks(rt, shares.as_slice(), self.blocks),
             Request::Bench(bench) => Ok(self.take_bench(bench)?),
             Request::Bound(confidence) => self.bound(confidence),
+            Request::Fit(shape) => self.fit_bench(rt, shape),
         }
     }
 
@@ -54,6 +61,7 @@ impl Desk {
             Room::Words => self.words = places,
             Room::Blocks => self.blocks = places,
             Room::Steps => self.steps = places,
+            Room::Work => self.work = places,
         }
         Answer::Room(room, places)
     }
@@ -86,6 +94,24 @@ impl Desk {
         let run = BenchRun::new(bench.units, bench.ages.as_slice(), bench.stop);
         Ok(Answer::Bound(run.bound(confidence)?))
     }
+
+    fn fit_bench(&self, rt: &HostRuntime, shape: Shape) -> Result<Answer, Failure> {
+        let Some(bench) = &self.bench else {
+            return Err(Failure::NotNow);
+        };
+        let run = BenchRun::new(bench.units, bench.ages.as_slice(), bench.stop);
+        self.fit(rt, &run, shape)
+    }
+
+    // Fits a curve to a source in the memory that is lent, and prints its steps.
+    pub fn fit<S: Source>(
+        &self,
+        rt: &HostRuntime,
+        source: &S,
+        shape: Shape,
+    ) -> Result<Answer, Failure> {
+        fit_and_print(rt, source, shape, self.steps, self.work)
+    }
 }
 
 // Pools a list, and prints its blocks.
@@ -102,7 +128,7 @@ fn print_blocks<K: Poolable + Default + fmt::Display>(
 }
 
 // Prints each on a line of its own.
-fn print_lines<T: Copy + fmt::Display>(rt: &HostRuntime, items: &[T]) -> io::Result<()> {
+pub fn print_lines<T: Copy + fmt::Display>(rt: &HostRuntime, items: &[T]) -> io::Result<()> {
     for item in items {
         rt.println(*item)?;
     }

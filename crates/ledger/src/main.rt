@@ -5,6 +5,7 @@ mod answers;
 mod commands;
 mod desk;
 mod failures;
+mod fitting;
 mod input;
 mod reading;
 mod requests;

@@ -1,6 +1,7 @@
 // Lines that need no study: memory to lend, releases, lists to pool, and bench runs.
 use crate::failures::Failure;
 use crate::reading::read_all;
+use curves::Shape;
 use lines::numbers::{at_most, decimal, pair};
 use pooling::{Rate, Share};
 use sources::Confidence;
@@ -17,6 +18,7 @@ pub enum Room {
     Words,
     Blocks,
     Steps,
+    Work,
 }
 
 impl Room {
@@ -26,6 +28,7 @@ impl Room {
             b"words" => Some(Room::Words),
             b"blocks" => Some(Room::Blocks),
             b"steps" => Some(Room::Steps),
+            b"work" => Some(Room::Work),
             _ => None,
         }
     }
@@ -37,6 +40,7 @@ impl fmt::Display for Room {
             Room::Words => "words",
             Room::Blocks => "blocks",
             Room::Steps => "steps",
+            Room::Work => "work",
         })
     }
 }
@@ -66,6 +70,7 @@ pub enum Request {
     PoolShares(Vec<Share>),
     Bench(Bench),
     Bound(Confidence),
+    Fit(Shape),
 }
 
 pub fn parse_room(fields: &[&[u8]]) -> Option<Request> {
@@ -93,6 +98,16 @@ pub fn parse_bound(fields: &[&[u8]]) -> Option<Request> {
     match *percent {
         b"95" => Some(Request::Bound(Confidence::Percent95)),
         b"90" => Some(Request::Bound(Confidence::Percent90)),
+        _ => None,
+    }
+}
+
+// The shape of a curve by its name.
+pub fn read_shape(name: &[u8]) -> Option<Shape> {
+    match name {
+        b"falling" => Some(Shape::Falling),
+        b"rising" => Some(Shape::Rising),
+        b"ushaped" => Some(Shape::UShaped),
         _ => None,
     }
 }

@@ -8,6 +8,7 @@ use crate::commands::{Change, Command, StudyCommand, read};
 use crate::desk::Desk;
 use crate::failures::Failure;
 use crate::input::Input;
+use history::{Call, do_call};
 use lives::{OpenStudy, Place, SealedStudy};
 use std::io;
 use units::Refusal;
@@ -111,7 +112,7 @@ impl Worked for OpenStudy<'_> {
                 rt.println(changed(self, change)?)?;
                 Ok(None)
             }
-            StudyCommand::Archive => Err(Failure::NotNow),
+            StudyCommand::Archive | StudyCommand::Fit(_) => Err(Failure::NotNow),
         }
     }
 }
@@ -129,6 +130,10 @@ impl Worked for SealedStudy<'_> {
             StudyCommand::Memory(places) => Ok(Some(places)),
             StudyCommand::Archive => {
                 archive(rt, self, desk.words)?;
+                Ok(None)
+            }
+            StudyCommand::Fit(shape) => {
+                rt.println(desk.fit(rt, self, shape)?)?;
                 Ok(None)
             }
             StudyCommand::Seal | StudyCommand::Change(_) => Err(Failure::NotNow),
@@ -166,9 +171,11 @@ fn changed(study: &mut OpenStudy, change: Change) -> Result<Answer, Refusal>
     ensures after { held study.new ≡ change_after (held study.old) change.entry }
 {
     match change {
-        Change::Row(row) => study.enter_row(&row).map(Answer::Place),
-        Change::Enter(life) => study.enter(life).map(Answer::Place),
-        Change::Strike(place) => study.strike(place as usize).map(|()| Answer::Struck(place)),
-        Change::Load(words) => study.load(words.as_slice()).map(Answer::Loaded),
+        Change::Row(row) => do_call(study, &Call::Row(row)).map(Answer::Place),
+        Change::Enter(life) => do_call(study, &Call::Enter(life)).map(Answer::Place),
+        Change::Strike(place) => do_call(study, &Call::Strike(place as usize)).map(
+            |_| Answer::Struck(place),
+        ),
+        Change::Load(words) => do_call(study, &Call::Load(words.as_slice())).map(Answer::Loaded),
     }
 }
