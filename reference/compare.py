@@ -17,6 +17,7 @@ from collections import Counter
 from fractions import Fraction
 
 import ledger
+from failure_ages import failure_ages
 
 PROGRAM = pathlib.Path(__file__).resolve().parent.parent / "crates/ledger/out/ledger"
 AGES = [0, 1, 2, 3, 4, 2_097_149, 2_097_150, 2_097_151, 2_097_152, 2**32 - 1, 2**32]
@@ -35,7 +36,7 @@ OTHER_LINES = """# comment|#|| , ,\t| # none|hello|seal it|archive all|row|enter
     |fit falling lives|fit u-shaped study|fit Rising bench|fit falling study 1|fit ushaped bench bench
     |fits falling study|fit rising, bench|fit falling sealed""".split("|")
 LIMIT = 2_147_483_648
-LAST_AGE = 2_097_151
+LAST_AGE = ledger.LAST_AGE
 SHAPES = "falling rising ushaped".split()
 OTHER_PIECES = """1 / 1/ /1 1/2/3 1//2 1/0 0/0 5/4 -1/2 +1/2 1/-2 1.0/2 1/x 0x1/2 007/0008 1/4294967295 1/4294967296
     4294967296/1 4294967295/1 4294967295/4294967295 2147483648/2147483648 0/2147483648 0/2147483649""".split()
@@ -164,34 +165,10 @@ class Maker:
         lines = ["bench " + " ".join(map(str, [units, stop] + ages)), "bound 95", "bound 90"]
         return "\n".join(lines[:rng.randint(1, 3)])
 
-    def ages(self):
-        """Ages for a curve, in order: with ties, evenly spaced, all the same, or near the highest age."""
-        rng = self.rng
-        length = rng.choice([0, 1, 2, 3, 3, 4, 5, 6, 8, 8, 12, 16, 40 if rng.random() < 0.3 else 7])
-        change = rng.randrange(8)
-        if change == 0:
-            ages = [rng.choice([1, 2, 7, LAST_AGE - 1, LAST_AGE, rng.randint(1, LAST_AGE)])] * length
-        elif change == 1:
-            every = rng.choice([1, 2, 3, 1000, LAST_AGE // max(length, 1)])
-            ages = [(i + 1) * every for i in range(length)]
-        elif change in (2, 6):  # the same gaps from both ends
-            gaps = [rng.randint(1, 4) for _ in range((length + 1) // 2)]
-            gaps = gaps + gaps[::-1][rng.randrange(2):]
-            ages = [sum(gaps[:i + 1]) for i in range(len(gaps))]
-        elif change == 3:
-            ages = [LAST_AGE - rng.choice([0, 1, 2, rng.randrange(40)]) for _ in range(length)]
-        elif change == 4:
-            ages = rng.sample(range(1, LAST_AGE + 1), length)
-        elif change == 5:  # many early, few, many late
-            ages = [rng.choice([rng.randint(1, 10), rng.randint(1, 100), rng.randint(90, 100)]) for _ in range(length)]
-        else:
-            ages = [rng.randint(1, rng.choice([3, 6, 12, 40])) for _ in range(length)]
-        return sorted(ages)
-
     def lives(self):
         """Lives (serial, entry, exit, mark) for a curve."""
         rng = self.rng
-        ages = self.ages()
+        ages = failure_ages(self.rng)
         change = rng.randrange(6)
         if change < 2:  # all from the beginning
             lives = [(0, age) for age in ages]
@@ -250,7 +227,7 @@ class Maker:
     def bench_curves(self):
         """A bench, mostly sound, and curves of it."""
         rng = self.rng
-        ages = self.ages()
+        ages = failure_ages(self.rng)
         last = ages[-1] if ages else 1
         stop = rng.choice([last, last, min(LAST_AGE, last + 1), min(LAST_AGE, last + 3), LAST_AGE])
         units = len(ages) + rng.choice([0, 0, 1, 2, 1024 - len(ages)])
