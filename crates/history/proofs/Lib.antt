@@ -3,3 +3,4 @@ pub mod Steps
 pub mod Counts
 mod Left
 pub mod Successions
+mod TakingOver

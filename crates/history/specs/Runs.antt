@@ -1,9 +1,12 @@
 -- Successions of calls on a study, by what the contracts of its calls say, and the law over all of them.
-use Rattle.std.specs.Prelude.{◌≡◌, ℕ, ◌+◌, ◌≤◌, min, List, [], ◌∷◌, ◌++◌, length, drop, Ok, Err, fold, Result}
+use Rattle.std.specs.Prelude.{◌≡◌, ℕ, ◌+◌, ◌≤◌, min, cond, List, [], ◌∷◌, ◌++◌, map, length, drop, Ok, Err, fold, Result, nat_le}
 use Rattle.units.specs.Refusals.{Refused}
 use Rattle.pooling.specs.Pooling.{answered}
 use Rattle.lives.specs.declared.types.UncheckedLife.{UncheckedLife}
-use Rattle.lives.specs.Lives.{PlainPlace, judge}
+use Rattle.lives.specs.declared.types.Place.{Place}
+use Rattle.lives.specs.Archive.{archive_of, archive_length}
+use Rattle.lives.specs.Lives.{PlainPlace, plain, judge}
+use Rattle.lives.specs.RoundTrip.{take_over_after}
 use Rattle.lives.specs.Sheets.{PlainRow, row_life}
 use Rattle.lives.specs.Decode.{load_answer, load_after}
 use Rattle.lives.specs.Studies.{Held, opened, most_places, enter_answer, enter_after, strike_answer, strike_after}
@@ -79,3 +82,13 @@ pub record Stands (n : ℕ) (cs : List PlainCall) (h : Held) : Type 0 where
 -- No succession of calls leads to a fault: all this is true of every study that was reached.
 abbrev pub NoSuccessionLeadsToAFault : Type 0
 NoSuccessionLeadsToAFault = (n : ℕ) (cs : List PlainCall) (h : Held) → Reached n cs h → Stands n cs h
+
+-- ---- taking over
+
+-- Taking over the places of a sealed study reaches what the load of their archive reaches, or nothing new where the words lent for it are too few.
+-- So the law speaks of a study that took over another one, too.
+abbrev pub TakingOverIsLoading : Type 0
+TakingOverIsLoading =
+    (n : ℕ) (cs : List PlainCall) (h : Held) (ps : List Place) (ws : List ℕ) → length ps ≤ most_places → Reached n cs h
+    → Reached n (cond (nat_le (archive_length (map plain ps)) (length ws)) (cs ++ load (archive_of (map plain ps)) ∷ []) cs)
+    (take_over_after h (map plain ps) ws)
