@@ -55,18 +55,17 @@ impl Pieces {
 }
 
 impl ReleaseSheet {
-    // The shares of the rows with trials, and the numbers of their releases.
-    fn pieces(&self) -> Pieces
-        ensures shares { map share_ratio (piece_shares result) ≡ tried_shares (sheet_rows self.now) }
-        ensures releases { piece_releases result ≡ tried_releases (sheet_rows self.now) }
+    // Puts in the shares of the rows with trials, and the numbers of their releases. (Pieces that are answered would be copied from place to place.)
+    fn gather(&self, pieces: &mut Pieces)
+        requires { pieces.old.count ≡ 0 }
+        ensures shares { map share_ratio (piece_shares pieces.new) ≡ tried_shares (sheet_rows self.now) }
+        ensures releases { piece_releases pieces.new ≡ tried_releases (sheet_rows self.now) }
     {
-        let mut pieces = Pieces::default();
         for (i, row) in self.rows.iter().enumerate() {
             if let Some(share) = row.share() {
                 pieces.push(i as u32 + 1, share);
             }
         }
-        pieces
     }
 
     // The rising fit of the shares of the rows with trials, written as steps. Refused without a trial, or where the step memory is shorter than the rows with trials.
@@ -74,6 +73,8 @@ impl ReleaseSheet {
         ensures answer { answer result ≡ growth_answer (sheet_rows self.now) (length steps.old) }
         ensures memory { steps.new ≡ growth_memory (sheet_rows self.now) steps.old }
     {
-        self.pieces().fit(steps)
+        let mut pieces = Pieces::default();
+        self.gather(&mut pieces);
+        pieces.fit(steps)
     }
 }

@@ -55,6 +55,12 @@ impl Row {
     pub(crate) fn share(&self) -> Option<Share>
         ensures { option_map share_ratio result ≡ row_share (row_ratio self.now) }
     {
-        Share::new(self.successes, self.trials)
+        if self.trials == 0 {
+            return None;
+        }
+        Some(Share {
+            successes: self.successes,
+            trials: self.trials,
+        })
     }
 }

@@ -1,5 +1,5 @@
 -- What the questions of a bench run answer, over its data.
-use Rattle.std.proofs.Common.{◌≡◌, ℕ, zero, suc, ◌+◌, ◌-◌, ◌*◌, ◌<◌, ◌≤◌, min, Bool, true, false, cond, ◌&&◌, eqb, List, [], ◌∷◌, map, length, get_or, Some, None, Option, ◌⊎◌, add-one, sym, refl, ap, ◌∙◌, subst, inl, inr, mul-le-mul_left, mul-zero, mul-suc, arith}
+use Rattle.std.proofs.Common.{◌≡◌, ℕ, zero, suc, ◌+◌, ◌-◌, ◌*◌, ◌<◌, ◌≤◌, min, Bool, true, false, cond, ◌&&◌, eqb, List, [], ◌∷◌, map, length, get_or, Some, None, Option, add-one, sym, refl, ap, ◌∙◌, subst, inl, inr, mul-le-mul_left, mul-zero, mul-suc, arith}
 use native.Mathlib.Nat.{mul-sub}
 use Rattle.std.specs.Bool.{MatchBool}
 use Rattle.std.specs.List.{AllWithin, HoldsAt, count_by, sum_by, slice_get}
@@ -28,14 +28,6 @@ use Rattle.sources.proofs.Questions.{latest_is}
 abbrev no_age : Age
 no_age = record { 0 = 0 }
 
--- in order where the first age is not below the low limit, none is below the one before it, and none is above the high limit
-order_found : (lo hi : ℕ) (xs : List Age) → ((d : Age) → 0 < length xs → lo ≤ (get_or xs 0 d).0) → ((k : ℕ) (d : Age) → suc k < length xs → (get_or xs k d).0 ≤ (get_or xs (suc k) d).0)
-    → ((k : ℕ) (d : Age) → k < length xs → (get_or xs k d).0 ≤ hi) → in_order lo hi (map age_ticks xs) ≡ true
-order_found lo hi [] first next top = refl
-order_found lo hi (x ∷ xs) first next top =
-    order_from lo hi x.0 (map age_ticks xs) (first x (omega arith)) (top 0 x (omega arith))
-    (order_found x.0 hi xs (λ d h. next 0 d (omega arith)) (λ k d h. next (suc k) d (omega arith)) (λ k d h. top (suc k) d (omega arith)))
-
 order_next : (lo hi : ℕ) (xs : List Age) → in_order lo hi (map age_ticks xs) ≡ true → (k : ℕ) (d : Age) → suc k < length xs → (get_or xs k d).0 ≤ (get_or xs (suc k) d).0
 order_next lo hi [] e k d h = absurd (omega arith)
 order_next lo hi (x ∷ []) e k d h = absurd (omega arith)
@@ -50,7 +42,7 @@ order_each lo hi (x ∷ xs) e (suc k) d h =
     let q = order_each x.0 hi xs p.2 k d (omega arith) in
     (omega (arith, p.0, q.0), q.1)
 
-false_from : (b : Bool) → (b ≡ true → ⊥) → false ≡ b
+pub false_from : (b : Bool) → (b ≡ true → ⊥) → false ≡ b
 false_from true h = absurd (h refl)
 false_from false h = refl
 
@@ -67,19 +59,6 @@ order_broken lo hi xs h =
     let k = h.0 in
     let b : (get_or xs (suc k) no_age).0 < (get_or xs k no_age).0 = past _ _ (rw add-one at (h.2 no_age)) in
     false_from _ (λ e. absurd (omega (arith, order_next lo hi xs e k no_age (omega (arith, h.1)), b)))
-
-abbrev pub Within : ℕ → Age → Type 0
-Within hi a = (1 ≤ a.0) × (a.0 ≤ hi)
-
-abbrev pub Outside : ℕ → Age → Type 0
-Outside hi a = (a.0 < 1) ⊎ (hi < a.0)
-
-pub order_whole : (r : Bool) (hi : ℕ) (xs : List Age) → ((k : ℕ) (d : Age) → k + 1 < length xs → is_le (nat_cmp (get_or xs k d).0 (get_or xs (k + 1) d).0) ≡ true)
-    → MatchBool r (AllWithin (Within hi) xs 0 (length xs)) ((k : ℕ) × (k < length xs) × HoldsAt (Outside hi) xs k) → r ≡ in_order 1 hi (map age_ticks xs)
-order_whole true hi xs next each =
-    sym (order_found 1 hi xs (λ d h. (each 0 d (omega arith) h).0) (λ k d h. up_to _ _ (rw add-one at (next k d (omega arith)))) (λ k d h. (each k d (omega arith) h).1))
-order_whole false hi xs next some =
-    false_from _ (λ e. let p = order_each 1 hi xs e some.0 no_age some.1 in absurd (omega (arith, p.0, p.1, some.2 no_age)))
 
 -- the two tests of the code together
 pub valid_by : (units stop : ℕ) (ages : List Age) (v : Bool) → v ≡ sizes_valid units (length ages) stop → (v && in_order 1 stop (map age_ticks ages)) ≡ valid (record { units = units; ages = map age_ticks ages; stop = stop })
@@ -122,6 +101,42 @@ final_from lo hi (x ∷ xs) e = let p = order_parts lo hi x xs e in omega (arith
 final_to : (lo hi : ℕ) (xs : List ℕ) → in_order lo hi xs ≡ true → lo ≤ hi → final lo xs ≤ hi
 final_to lo hi [] e h = h
 final_to lo hi (x ∷ xs) e h = let p = order_parts lo hi x xs e in final_to x hi xs p.2 p.1
+
+-- ages that rise are in order where the first and the last are within the limits
+
+ordered : (lo hi : ℕ) (xs : List Age) → ((d : Age) → 0 < length xs → lo ≤ (get_or xs 0 d).0) → ((k : ℕ) (d : Age) → suc k < length xs → (get_or xs k d).0 ≤ (get_or xs (suc k) d).0)
+    → final lo (map age_ticks xs) ≤ hi → in_order lo hi (map age_ticks xs) ≡ true
+ordered lo hi [] first next top = refl
+ordered lo hi (x ∷ xs) first next top =
+    let rest = ordered x.0 hi xs (λ d h. next 0 d (omega arith)) (λ k d h. next (suc k) d (omega arith)) top in
+    order_from lo hi x.0 (map age_ticks xs) (first x (omega arith)) (omega (arith, final_from x.0 hi (map age_ticks xs) rest, top)) rest
+
+first_is : (xs : List Age) (a d : Age) → Some a ≡ slice_get xs 0 → get_or xs 0 d ≡ a
+first_is [] a d e = cc
+first_is (x ∷ xs) a d e = cc
+
+pub order_whole : (hi : ℕ) (xs : List Age) (a b : Age) → Some a ≡ slice_get xs 0 → Some b ≡ slice_get xs (length xs - 1) → 1 ≤ a.0 → b.0 ≤ hi
+    → ((k : ℕ) (d : Age) → k + 1 < length xs → is_le (nat_cmp (get_or xs k d).0 (get_or xs (k + 1) d).0) ≡ true) → true ≡ in_order 1 hi (map age_ticks xs)
+order_whole hi xs a b first last low high next =
+    let l = last_some xs b last in
+    let some : 0 < length (map age_ticks xs) = omega (arith, l.0, length-map xs age_ticks) in
+    sym (ordered 1 hi xs (λ d h. omega (arith, low, ap age_ticks (first_is xs a d first))) (λ k d h. up_to _ _ (rw add-one at (next k d (omega arith))))
+    (omega (arith, high, l.1, final_any 1 0 (map age_ticks xs) some)))
+
+pub order_sorted : (r : Bool) (hi : ℕ) (xs : List Age) (a b : Age) → Some a ≡ slice_get xs 0 → Some b ≡ slice_get xs (length xs - 1) → 1 ≤ a.0 → b.0 ≤ hi
+    → MatchBool r ((k : ℕ) (d : Age) → k + 1 < length xs → is_le (nat_cmp (get_or xs k d).0 (get_or xs (k + 1) d).0) ≡ true)
+    ((k : ℕ) × (k + 1 < length xs) × ((d : Age) → is_le (nat_cmp (get_or xs k d).0 (get_or xs (k + 1) d).0) ≡ false)) → r ≡ in_order 1 hi (map age_ticks xs)
+order_sorted true hi xs a b first last low high next = order_whole hi xs a b first last low high next
+order_sorted false hi xs a b first last low high some = order_broken 1 hi xs some
+
+-- and each age that is read is within the limits where they are
+pub order_within : (hi : ℕ) (xs : List Age) (i : ℕ) (a : Age) → Some a ≡ slice_get xs i → in_order 1 hi (map age_ticks xs) ≡ true → (1 ≤ a.0) × (a.0 ≤ hi)
+order_within hi xs i a s e = elim (slice_get_cases xs i).1 [
+  | inl h ↦ (
+      let p = order_each 1 hi xs e i h.0 h.1 in
+      let q : a ≡ h.0 = cc in (omega (arith, p.0, ap age_ticks h.3, ap age_ticks q), omega (arith, p.1, ap age_ticks h.3, ap age_ticks q)))
+  | inr h ↦ cc
+]
 
 before_final : (lo hi : ℕ) (xs : List ℕ) (t : ℕ) → in_order lo hi xs ≡ true → final lo xs < t → number_before xs t ≡ length xs
 before_final lo hi [] t e h = refl

@@ -3,19 +3,18 @@ use Rattle.std.proofs.Common.{◌≡◌, ℕ, zero, suc, ◌+◌, ◌-◌, ◌<�
 use Rattle.std.proofs.lemmas.Bool.{and_from, and_left, and_right, le-leb, lt-leb, lt-ltb, le-ltb, cond-true, cond-false, cases_lt, cases_Bool, not_from_false, not_from_true}
 use Rattle.std.proofs.lemmas.List.Sums.{sum_by-cons}
 use Rattle.std.proofs.lemmas.Bool.Decides.{nat_tests}
-use Rattle.std.specs.List.{count_by, filter, filter_map, cons_option, fold, reduce, sum_by}
+use Rattle.std.specs.List.{count_by, fold, reduce, sum_by}
 use Rattle.std.specs.Option.{unwrap_or, option_map, UnwrapsOrElse}
-use Rattle.std.specs.Ordering.{nat_cmp, min_by_ordering}
 use Rattle.units.specs.Hours.{age_ticks}
 use Rattle.units.specs.declared.ages.Age.{Age}
 use Rattle.lives.specs.Lives.{PlainPlace, plain}
 use Rattle.lives.specs.declared.types.Place.{Place}
 use Rattle.sources.specs.Ticks.{upto, between}
-use Rattle.sources.specs.Questions.{Next, Oldest}
+use Rattle.sources.specs.Questions.{Next, Oldest, sooner}
 use Rattle.sources.specs.Tallies.{upto_zero, upto_suc, upto_add, upto_void}
-use Rattle.sources.specs.Studies.{watched_at, failed_at, failure_of, count, ticks_of}
+use Rattle.sources.specs.Studies.{watched_at, failed_at, failure_above, last_age_of, count, ticks_of}
 use Rattle.sources.specs.StudyLaws.{Bounded}
-use Rattle.sources.proofs.Questions.{sooner, between_sum, oldest_both, oldest_void, next_sooner, next_right}
+use Rattle.sources.proofs.Questions.{between_sum, oldest_both, oldest_void, next_same, next_sooner}
 
 -- what a chain over the places comes to, by the places as plain values
 
@@ -41,11 +40,14 @@ watched_struck t p s = and_left (not p.struck) _ (not_from_true p.struck s)
 no_one : (b : Bool) → b ≡ false → ◌≡◌ {A = ℕ} (cond b 1 0) 0
 no_one b e = cond-false {A = ℕ} b 1 0 e
 
-oldest_one : (p : PlainPlace) → Bounded p → p.struck ≡ false → Oldest (λ t. cond (watched_at t p) 1 0) p.life.exit
-oldest_one p ok s = record {
-  past = λ t l. no_one _ (watched_past t p l);
-  there = λ l. omega (arith, cond-true {A = ℕ} _ 1 0 (watched_on p.life.exit p s (omega (arith, ok.0)) (omega arith)));
-}
+oldest_one : (p : PlainPlace) → Bounded p → Oldest (λ t. cond (watched_at t p) 1 0) (last_age_of p)
+oldest_one p ok = elim (cases_Bool p.struck) [
+  | inl s ↦ (let e : last_age_of p ≡ 0 = cond-true {A = ℕ} p.struck 0 p.life.exit s in record { past = λ t _. no_one _ (watched_struck t p s); there = λ l. omega (arith, e) })
+  | inr s ↦ (let e : last_age_of p ≡ p.life.exit = cond-false {A = ℕ} p.struck 0 p.life.exit s in record {
+    past = λ t l. no_one _ (watched_past t p (omega (arith, e)));
+    there = λ l. omega (arith, cond-true {A = ℕ} _ 1 0 (watched_on (last_age_of p) p s (omega (arith, e, ok.0)) (omega (arith, e))));
+  })
+]
 
 -- the exposure of one life, and of all
 
@@ -101,32 +103,25 @@ lives_between (p ∷ ps) from to =
 
 -- the oldest age of all lives
 
--- the exit ages of those that are not struck
-abbrev pub exits : List Place → List ℕ
-exits ps = map (λ p. p.life.exit.0) (filter (λ p. not p.struck) ps)
+-- the age up to which each was watched
+abbrev pub last_ages : List Place → List ℕ
+last_ages ps = map (λ p. last_age_of (plain p)) ps
 
 -- beside other counts f, whose oldest age is x
-oldest_from : (n f : ℕ → ℕ) (x : ℕ) (ps : List Place) → ((t : ℕ) → n t ≡ f t + count (watched_at t) (map plain ps)) → Oldest f x → Oldest n (fold max x (exits ps))
+oldest_from : (n f : ℕ → ℕ) (x : ℕ) (ps : List Place) → ((t : ℕ) → n t ≡ f t + count (watched_at t) (map plain ps)) → Oldest f x → Oldest n (fold max x (last_ages ps))
 oldest_from n f x [] e o = record { past = λ t l. omega (arith, e t, o.past t l); there = λ l. omega (arith, e x, o.there l) }
 oldest_from n f x (p ∷ ps) e o =
-    go p.struck refl (λ y. oldest_from n (λ t. f t + cond (watched_at t (plain p)) 1 0) y ps (λ t. omega (arith, e t)))
-  where
-    go : (b : Bool) → p.struck ≡ b → ((y : ℕ) → Oldest (λ t. f t + cond (watched_at t (plain p)) 1 0) y → Oldest n (fold max y (exits ps))) → Oldest n (fold max x (exits (p ∷ ps)))
-    go true s ih =
-        rw s (ih x (record {
-          past = λ t l. omega (arith, o.past t l, no_one _ (watched_struck t (plain p) s));
-          there = λ l. omega (arith, o.there l);
-        }))
-    go false s ih =
-        rw s (ih (max x p.life.exit.0) (oldest_both _ f (λ t. cond (watched_at t (plain p)) 1 0) (λ t. refl) x p.life.exit.0 _ refl o (oldest_one (plain p) (p.life.ok.2, p.life.ok.3) s)))
+    let one = λ (t : ℕ). cond {A = ℕ} (watched_at t (plain p)) 1 0 in
+    oldest_from n (λ t. f t + one t) (max x (last_age_of (plain p))) ps (λ t. omega (arith, e t))
+    (oldest_both _ f one (λ t. refl) x (last_age_of (plain p)) _ refl o (oldest_one (plain p) (p.life.ok.2, p.life.ok.3)))
 
 -- the highest number of a list, or 0
 highest : (xs : List ℕ) → fold max 0 xs ≡ unwrap_or (reduce max xs) 0
 highest [] = refl
 highest (x ∷ xs) = let e : max 0 x ≡ x = omega arith in ap (λ y. fold max y xs) e
 
-pub oldest_lives : (ps : List Place) → Oldest (λ t. count (watched_at t) (map plain ps)) (unwrap_or (reduce max (exits ps)) 0)
-oldest_lives ps = subst (Oldest (λ t. count (watched_at t) (map plain ps))) (highest (exits ps)) (oldest_from _ (λ t. 0) 0 ps (λ t. omega arith) (oldest_void _ (λ t. refl)))
+pub oldest_lives : (ps : List Place) → Oldest (λ t. count (watched_at t) (map plain ps)) (unwrap_or (reduce max (last_ages ps)) 0)
+oldest_lives ps = subst (Oldest (λ t. count (watched_at t) (map plain ps))) (highest (last_ages ps)) (oldest_from _ (λ t. 0) 0 ps (λ t. omega arith) (oldest_void _ (λ t. refl)))
 
 -- the same of an age, or of the age 0
 pub age_or_zero : (o : Option Age) (a : Age) → UnwrapsOrElse o (λ r. r.0 ≡ 0) a → a.0 ≡ unwrap_or (option_map age_ticks o) 0
@@ -135,21 +130,9 @@ age_or_zero (Some x) a e = ap age_ticks e
 
 -- the next failure of all lives
 
--- an age where it is above x
-abbrev later : ℕ → Option Age → Option Age
-later x None = None
-later x (Some a) = cond (ltb x a.0) (Some a) None
-
--- the ages above x of those that failed
-abbrev pub failures_above : ℕ → List Place → List Age
-failures_above x ps = filter (λ a. ltb x a.0) (filter_map (λ p. failure_of (plain p)) ps)
-
--- the lower of two ages
-abbrev pub lower : Age → Age → Age
-lower a b = min_by_ordering (nat_cmp a.0 b.0) a b
-
-lower_is : (a b : Age) → lower a b ≡ record { 0 = min a.0 b.0 }
-lower_is a b = grind (arith, nat_tests)
+-- for each life the age above x at which it failed, if it did
+abbrev pub failures_above : ℕ → List Place → List (Option Age)
+failures_above x ps = map (λ p. failure_above x (plain p)) ps
 
 -- one life as a count of failures
 abbrev failure_at : Place → ℕ → ℕ
@@ -158,32 +141,15 @@ failure_at p t = cond (failed_at t (plain p)) 1 0
 abbrev failures_at : List Place → ℕ → ℕ
 failures_at ps t = count (failed_at t) (map plain ps)
 
-next_one : (x : ℕ) (p : Place) → Next (failure_at p) x (later x (failure_of (plain p)))
+next_one : (x : ℕ) (p : Place) → Next (failure_at p) x (failure_above x (plain p))
 next_one x p = grind (arith, nat_tests)
 
-failures_more : (x : ℕ) (p : Place) (ps : List Place) → failures_above x (p ∷ ps) ≡ cons_option (later x (failure_of (plain p))) (failures_above x ps)
-failures_more x p ps = go (failure_of (plain p))
-  where
-    go : (o : Option Age) → filter (λ a. ltb x a.0) (cons_option o (filter_map (λ q. failure_of (plain q)) ps)) ≡ cons_option (later x o) (failures_above x ps)
-    go None = refl
-    go (Some a) = elim (ltb x a.0) as (λ b. cond b (a ∷ failures_above x ps) (failures_above x ps) ≡ cons_option (cond b (Some a) None) (failures_above x ps)) [ true ↦ refl | false ↦ refl ]
+-- beside other counts f, whose next failure is o
+next_from : (n f : ℕ → ℕ) (x : ℕ) (o : Option Age) (ps : List Place) → ((t : ℕ) → n t ≡ f t + failures_at ps t) → Next f x o → Next n x (fold sooner o (failures_above x ps))
+next_from n f x o [] e h = next_same f n (λ t. omega (arith, e t)) x o h
+next_from n f x o (p ∷ ps) e h =
+    next_from n (λ t. f t + failure_at p t) x (sooner o (failure_above x (plain p))) ps (λ t. omega (arith, e t))
+    (next_sooner (λ t. f t + failure_at p t) f (failure_at p) (λ t. refl) x o _ h (next_one x p))
 
--- beside other counts f, whose next failure is at the age a
-next_from : (n f : ℕ → ℕ) (x : ℕ) (a : Age) (ps : List Place) → ((t : ℕ) → n t ≡ f t + failures_at ps t) → Next f x (Some a) → Next n x (Some (fold lower a (failures_above x ps)))
-next_from n f x a [] e h = (h.0, omega (arith, e a.0, h.1), λ t l m. omega (arith, e t, h.2 t l m))
-next_from n f x a (p ∷ ps) e h =
-    rw failures_more (go (later x (failure_of (plain p))) (λ b. next_from n (λ t. f t + failure_at p t) x b ps (λ t. omega (arith, e t)))
-    (next_sooner (λ t. f t + failure_at p t) f (failure_at p) (λ t. refl) x (Some a) _ h (next_one x p)))
-  where
-    go : (o : Option Age) → ((b : Age) → Next (λ t. f t + failure_at p t) x (Some b) → Next n x (Some (fold lower b (failures_above x ps))))
-        → Next (λ t. f t + failure_at p t) x (sooner (Some a) o) → Next n x (Some (fold lower a (cons_option o (failures_above x ps))))
-    go None ih q = ih a q
-    go (Some b) ih q = ih (lower a b) (subst (λ c. Next (λ t. f t + failure_at p t) x (Some c)) (sym (lower_is a b)) q)
-
-pub next_lives : (x : ℕ) (ps : List Place) → Next (λ t. count (failed_at t) (map plain ps)) x (reduce lower (failures_above x ps))
-next_lives x [] = λ t _. refl
-next_lives x (p ∷ ps) = rw failures_more (go (later x (failure_of (plain p))) (next_one x p) (next_lives x ps))
-  where
-    go : (o : Option Age) → Next (failure_at p) x o → Next (failures_at ps) x (reduce lower (failures_above x ps)) → Next (λ t. failures_at ps t + failure_at p t) x (reduce lower (cons_option o (failures_above x ps)))
-    go None q ih = next_right (λ t. failures_at ps t + failure_at p t) (failure_at p) (failures_at ps) (λ t. omega arith) x q _ ih
-    go (Some b) q ih = next_from (λ t. failures_at ps t + failure_at p t) (failure_at p) x b ps (λ t. omega arith) q
+pub next_lives : (x : ℕ) (ps : List Place) → Next (λ t. count (failed_at t) (map plain ps)) x (fold sooner None (failures_above x ps))
+next_lives x ps = next_from _ (λ t. 0) x None ps (λ t. omega arith) (λ t _. refl)

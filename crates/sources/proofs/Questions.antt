@@ -6,7 +6,7 @@ use Rattle.units.specs.declared.ages.Age.{Age}
 use Rattle.sources.specs.Ticks.{upto, between}
 use Rattle.sources.specs.Counts.{Lawful}
 use Rattle.sources.specs.Ages.{latest, oldest, first_failure, next_failure}
-use Rattle.sources.specs.Questions.{Next, Oldest, QuestionsStand}
+use Rattle.sources.specs.Questions.{Next, Oldest, QuestionsStand, sooner}
 use Rattle.sources.specs.Tallies.{flat, upto_le}
 
 -- ---- the next failure age
@@ -119,12 +119,6 @@ next_same f g e x None h = λ t l. omega (arith, e t, h t l)
 next_same f g e x (Some a) h = (h.0, omega (arith, e a.0, h.1), λ t l m. omega (arith, e t, h.2 t l m))
 
 -- ---- the sum of two counts
-
--- the lower of two ages, each of which may be none
-abbrev pub sooner : Option Age → Option Age → Option Age
-sooner None b = b
-sooner (Some a) None = Some a
-sooner (Some a) (Some b) = Some (record { 0 = min a.0 b.0 })
 
 module _ (f a b : ℕ → ℕ) (sum : (t : ℕ) → f t ≡ a t + b t) (x : ℕ) where
   pub next_right : Next a x None → (o : Option Age) → Next b x o → Next f x o

@@ -1,5 +1,5 @@
 -- What the answers of the questions are, in words.
-use Rattle.std.specs.Prelude.{◌≡◌, ℕ, ◌<◌, Some, None, Option}
+use Rattle.std.specs.Prelude.{◌≡◌, ℕ, ◌<◌, min, Some, None, Option}
 use Rattle.units.specs.declared.ages.Age.{Age}
 use Rattle.sources.specs.Ages.{next_failure, oldest}
 use Rattle.sources.specs.Counts.{Lawful}
@@ -13,6 +13,12 @@ Next f x (Some a) = (x < a.0) × (0 < f a.0) × ((t : ℕ) → x < t → t < a.0
 pub record Oldest (n : ℕ → ℕ) (a : ℕ) : Type 0 where
   pub past : (t : ℕ) → a < t → n t ≡ 0
   pub there : 0 < a → 0 < n a
+
+-- the lower of two ages, each of which may be none
+abbrev pub sooner : Option Age → Option Age → Option Age
+sooner None b = b
+sooner (Some a) None = Some a
+sooner (Some a) (Some b) = Some (record { 0 = min a.0 b.0 })
 
 -- of lawful counts, the next failure age is the least above x, and the oldest age the greatest that is watched
 abbrev pub QuestionsStand : Type 0

@@ -19,9 +19,13 @@ watched_at t p = not p.struck && (nat_lt p.life.entry t && nat_le t p.life.exit)
 abbrev pub failed_at : ℕ → PlainPlace → Bool
 failed_at t p = not p.struck && (is_failed p.life.status && p.life.exit == t)
 
--- the age at which a life failed, where it did and is not struck
-abbrev pub failure_of : PlainPlace → Option Age
-failure_of p = cond (not p.struck && is_failed p.life.status) (Some (record { 0 = p.life.exit })) None
+-- a life that is not struck has failed
+abbrev pub has_failed : PlainPlace → Bool
+has_failed p = not p.struck && is_failed p.life.status
+
+-- the age at which a life failed, where it did, is not struck, and is above x
+abbrev pub failure_above : ℕ → PlainPlace → Option Age
+failure_above x p = cond (has_failed p && nat_lt x p.life.exit) (Some (record { 0 = p.life.exit })) None
 
 -- how many of the places pass a test
 abbrev pub count : (PlainPlace → Bool) → List PlainPlace → ℕ
@@ -41,3 +45,7 @@ study_counts ps = record { watched = study_watched ps; failed = study_failed ps 
 -- the ticks after one age and up to another at which a life is watched
 abbrev pub ticks_of : PlainPlace → ℕ → ℕ → ℕ
 ticks_of p from to = cond p.struck 0 (min p.life.exit to - max p.life.entry from)
+
+-- the last age at which a life is watched, or 0 where it is struck
+abbrev pub last_age_of : PlainPlace → ℕ
+last_age_of p = cond p.struck 0 p.life.exit

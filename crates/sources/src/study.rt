@@ -3,8 +3,8 @@ ghost use Rattle.std.specs.Prelude.{◌≡◌, ◌≤◌, map, length};
 ghost use Rattle.lives.specs.Lives.{plain};
 ghost use Rattle.lives.specs.Studies.{sealed};
 ghost use Rattle.sources.specs.Counts.{most_failures};
-ghost use Rattle.sources.specs.Questions.{Next, Oldest};
-ghost use Rattle.sources.specs.Studies.{failure_of, study_counts, study_failed, study_watched, ticks_of};
+ghost use Rattle.sources.specs.Questions.{Next, Oldest, sooner};
+ghost use Rattle.sources.specs.Studies.{failure_above, has_failed, last_age_of, study_counts, study_failed, study_watched, ticks_of};
 ghost use Rattle.sources.specs.StudyLaws.{sealed_laws};
 ghost use Rattle.sources.specs.Ticks.{between};
 
@@ -34,14 +34,14 @@ impl<'a> Source for SealedStudy<'a> {
     }
 }
 
+// The chains map each life and filter none, and tests are joined by `&`: a branch on what a life holds is guessed wrong at every second of lives in no order.
 fn next_failure_in(places: &[Place], above: Age) -> Option<Age>
     ensures { Next (study_failed (map plain places.now)) above.0 result }
 {
     places
         .iter()
-        .filter_map(|place| failure_age(*place))
-        .filter(|age| *age > above)
-        .min()
+        .map(|place| failure_above(*place, above))
+        .fold(None, earlier)
 }
 
 fn failures_in(places: &[Place], age: Age) -> u32
@@ -50,8 +50,8 @@ fn failures_in(places: &[Place], age: Age) -> u32
 {
     places
         .iter()
-        .filter(|place| failure_age(**place) == Some(age))
-        .count() as u32
+        .map(|place| u32::from(has_failed(*place) & (place.life.exit == age)))
+        .sum()
 }
 
 fn exposure_in(places: &[Place], from: Age, to: Age) -> Exposure
@@ -66,17 +66,45 @@ fn oldest_in(places: &[Place]) -> Age
 {
     places
         .iter()
-        .filter(|place| !place.struck)
-        .map(|place| place.life.exit)
+        .map(|place| last_age(*place))
         .max()
         .unwrap_or_default()
 }
 
-// The age at which a life failed that is not struck.
-fn failure_age(place: Place) -> Option<Age>
-    ensures { result ≡ failure_of (plain place) }
+// Whether a life failed and is not struck.
+fn has_failed(place: Place) -> bool
+    ensures { result ≡ has_failed (plain place) }
 {
-    (!place.struck && place.life.status == Status::Failed).then_some(place.life.exit)
+    !place.struck & (place.life.status == Status::Failed)
+}
+
+// The age at which a life failed, where it did, is not struck, and is above another age.
+fn failure_above(place: Place, above: Age) -> Option<Age>
+    ensures { result ≡ failure_above above.0 (plain place) }
+{
+    (has_failed(place) & (place.life.exit > above)).then_some(place.life.exit)
+}
+
+// The earlier of two ages, each of which may be none.
+fn earlier(one: Option<Age>, other: Option<Age>) -> Option<Age>
+    ensures { result ≡ sooner one other }
+{
+    match (one, other) {
+        (Some(one), Some(other)) => Some(one.min(other)),
+        (Some(one), None) => Some(one),
+        (None, other) => other,
+    }
+}
+
+// The last age at which a life was watched, or 0 where it is struck.
+fn last_age(place: Place) -> Age
+    ensures { result.0 ≡ last_age_of (plain place) }
+{
+    if place.struck {
+        Age(0)
+    } else {
+        place.life.exit
+    }
 }
 
 fn ticks(place: Place, from: Age, to: Age) -> u32

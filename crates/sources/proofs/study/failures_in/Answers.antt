@@ -1,5 +1,5 @@
-use Rattle.std.proofs.Common.{◌≡◌, rules, ◌∙◌}
-use Rattle.std.specs.List.{count_by}
+use Rattle.std.proofs.Common.{◌≡◌, cond, rules, ◌∙◌}
+use Rattle.std.specs.List.{sum_by}
 use Rattle.std.proofs.iter.runs.Made.{chains}
 use Rattle.lives.specs.Lives.{plain}
 use Rattle.sources.specs.Studies.{study_failed, failed_at}
@@ -11,5 +11,5 @@ unfolding study_failed
 returns c =
     let ps = c.args.places.now in
     let t = c.args.age.0 in
-    let number : c.count.result ≡ count_by (λ p. failed_at t (plain p)) ps = search (rules, chains) in
+    let number : c.sum.result ≡ sum_by (λ p. cond (failed_at t (plain p)) 1 0) ps = search (rules, chains) in
     number ∙ count_all (failed_at t) ps

@@ -5,8 +5,8 @@ use Rattle.releases.specs.declared.rows.Row.{Row}
 use Rattle.releases.specs.Sheets.{row_ratio, row_share}
 use Rattle.releases.specs.Pieces.{piece_releases}
 use Rattle.releases.proofs.Gathered.{gather_skip, gather_take}
-use Rattle.releases.proofs.sheets.ReleaseSheet.pieces.Goals as goal
-use Rattle.releases.proofs.sheets.ReleaseSheet.pieces.Goals.{in-Some, in_default}
+use Rattle.releases.proofs.sheets.ReleaseSheet.gather.Goals as goal
+use Rattle.releases.proofs.sheets.ReleaseSheet.gather.Goals.{in-Some, in_default}
 
 pub loop-i-preserved : goal.loop-i-preserved
 loop-i-preserved c =
